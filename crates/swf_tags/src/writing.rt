@@ -1,0 +1,132 @@
+// The writing of a SWF file.
+
+ghost use Rattle.std.specs.Prelude.{◌≡◌, ◌+◌, ◌≤◌, ◌<◌, ◌^◌, ◌++◌, ◌∷◌, [], length, All, ◌≢◌, IfOk, OnOk};
+ghost use Rattle.byteorder.specs.Endian.{little_bytes};
+ghost use Rattle.swf_tags.specs.Spelling.{swf_bytes, content, tag, header, long_header, zero_ended, abc_body, symbol_body, do_abc_tag, frame_header, tags};
+
+use byteorder::{ByteOrder, LittleEndian};
+use flex_base::{Bytes, NoMemory, Text};
+use std::alloc::Global;
+
+const END: u16 = 0;
+const SHOW_FRAME: u16 = 1;
+const SET_BACKGROUND_COLOR: u16 = 9;
+const FILE_ATTRIBUTES: u16 = 69;
+const SYMBOL_CLASS: u16 = 76;
+const DO_ABC: u16 = 82;
+
+/// The version of the written files.
+const VERSION: u8 = 10;
+
+/// The rectangle of 10,000 by 7,500 twips in 15 bits a side, 24 frames a second, and one frame.
+const FRAME_HEADER: [u8; 13] = [
+    0x78, 0x00, 0x04, 0xE2, 0x00, 0x00, 0x0E, 0xA6, 0x00, 0x00, 0x18, 0x01, 0x00,
+];
+
+/// The uncompressed SWF file whose main class has the dotted name `main`, and whose one program is
+/// `abc`. SWF File Format Specification, version 19: the header, FileAttributes,
+/// SetBackgroundColor, DoABC, SymbolClass, ShowFrame and End.
+pub fn write_swf(alloc: Global, main: &Text, abc: &[u8]) -> Result<Bytes, NoMemory>
+    requires no_zero { All (λ byte. byte ≢ 0) main.now }
+    requires fits { length main.now + length abc.now ≤ 2000000000 }
+    ensures { IfOk result (λ bytes. bytes ≡ swf_bytes main.now abc.now) }
+{
+    let mut bytes = Bytes::new(alloc);
+    bytes.extend(b"FWS")?;
+    bytes.push(VERSION)?;
+    put_u32(&mut bytes, file_length(main.as_str(), abc))?;
+    bytes.extend(&FRAME_HEADER)?;
+    put_tag(&mut bytes, FILE_ATTRIBUTES, &[0x08, 0x00, 0x00, 0x00])?;
+    put_tag(&mut bytes, SET_BACKGROUND_COLOR, &[0xFF, 0xFF, 0xFF])?;
+    put_do_abc(&mut bytes, abc)?;
+    put_symbol_class(&mut bytes, main.as_str())?;
+    put_tag(&mut bytes, SHOW_FRAME, &[])?;
+    put_tag(&mut bytes, END, &[])?;
+    Ok(bytes)
+}
+
+// The length of the whole file.
+fn file_length(main: &str, abc: &[u8]) -> u32
+    requires { length main.now + length abc.now ≤ 2000000000 }
+    ensures { result ≡ 8 + length (content main.now abc.now) }
+{
+    let symbol_header = if main.len() + 5 < 63 { 2 } else { 6 };
+    let length = 8 + FRAME_HEADER.len() + 6 + 5 + 16 + abc.len() + symbol_header + 5 + main.len() + 4;
+    length as u32
+}
+
+// A tag's header.
+fn put_header(bytes: &mut Bytes, code: u16, length: u32) -> Result<(), NoMemory>
+    requires { code < 1024 }
+    ensures { OnOk result (bytes.new ≡ bytes.old ++ header code length) }
+{
+    if length < 63 {
+        put_u16(bytes, 64 * code + length as u16)
+    } else {
+        put_long_header(bytes, code, length)
+    }
+}
+
+// A tag's header with the length behind it.
+fn put_long_header(bytes: &mut Bytes, code: u16, length: u32) -> Result<(), NoMemory>
+    requires { code < 1024 }
+    ensures { OnOk result (bytes.new ≡ bytes.old ++ long_header code length) }
+{
+    put_u16(bytes, 64 * code + 63)?;
+    put_u32(bytes, length)?;
+    Ok(())
+}
+
+// A tag with a short body.
+fn put_tag(bytes: &mut Bytes, code: u16, body: &[u8]) -> Result<(), NoMemory>
+    requires code { code < 1024 }
+    requires body { length body.now < 2 ^ 32 }
+    ensures { OnOk result (bytes.new ≡ bytes.old ++ tag code body.now) }
+{
+    put_header(bytes, code, body.len() as u32)?;
+    bytes.extend(body)?;
+    Ok(())
+}
+
+// The program: its flags, its name, and the ABC.
+fn put_do_abc(bytes: &mut Bytes, abc: &[u8]) -> Result<(), NoMemory>
+    requires { length abc.now ≤ 2000000000 }
+    ensures { OnOk result (bytes.new ≡ bytes.old ++ do_abc_tag abc.now) }
+{
+    put_long_header(bytes, DO_ABC, 10 + abc.len() as u32)?;
+    put_u32(bytes, 0)?;
+    bytes.extend(b"flexc\0")?;
+    bytes.extend(abc)?;
+    Ok(())
+}
+
+// The name of the main class.
+fn put_symbol_class(bytes: &mut Bytes, main: &str) -> Result<(), NoMemory>
+    requires { length main.now ≤ 2000000000 }
+    ensures { OnOk result (bytes.new ≡ bytes.old ++ tag 76 (symbol_body main.now)) }
+{
+    put_header(bytes, SYMBOL_CLASS, 5 + main.len() as u32)?;
+    put_u16(bytes, 1)?;
+    put_u16(bytes, 0)?;
+    bytes.extend(main.as_bytes())?;
+    bytes.push(0)?;
+    Ok(())
+}
+
+fn put_u16(bytes: &mut Bytes, number: u16) -> Result<(), NoMemory>
+    ensures { OnOk result (bytes.new ≡ bytes.old ++ little_bytes 2 number) }
+{
+    let mut field = [0; 2];
+    LittleEndian::write_u16(&mut field, number);
+    bytes.extend(&field)?;
+    Ok(())
+}
+
+fn put_u32(bytes: &mut Bytes, number: u32) -> Result<(), NoMemory>
+    ensures { OnOk result (bytes.new ≡ bytes.old ++ little_bytes 4 number) }
+{
+    let mut field = [0; 4];
+    LittleEndian::write_u32(&mut field, number);
+    bytes.extend(&field)?;
+    Ok(())
+}
