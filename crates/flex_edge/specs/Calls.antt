@@ -1,5 +1,5 @@
 -- What each call of the outside does to what the files or the sink mean.
-use Rattle.std.specs.Prelude.{◌≡◌, ◌≢◌, ℕ, ◌<◌, ◌≤◌, List, [], ◌++◌, length, take, Bool, IsTrue, Option, Some, None, MatchOption, Result, Ok, Err}
+use Rattle.std.specs.Prelude.{◌≡◌, ◌≢◌, ℕ, ◌<◌, ◌≤◌, List, [], ◌++◌, length, take, IsTrue, Some, None, MatchOption, Result, Ok, Err}
 use Rattle.flex_edge.specs.declared.refused.Refused.{Refused}
 use Rattle.flex_edge.specs.declared.refused.Refused.TheVariants as refused
 use Rattle.flex_edge.specs.Outside.{Rose, FilesState, SinkState}

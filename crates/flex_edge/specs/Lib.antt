@@ -1,2 +1,5 @@
 pub mod Outside
 pub mod Calls
+pub mod Memory
+pub mod MemoryCalls
+pub mod Host

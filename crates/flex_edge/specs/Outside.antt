@@ -1,5 +1,5 @@
 -- What files and a sink mean.
-use Rattle.std.specs.Prelude.{◌≡◌, ℕ, ◌<◌, ◌≤◌, List, Bool, Option}
+use Rattle.std.specs.Prelude.{ℕ, ◌<◌, ◌≤◌, List, Bool, Option}
 
 -- the last value of a count of faults, at which it stands still
 abbrev pub count_end : ℕ

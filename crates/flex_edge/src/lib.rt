@@ -1,12 +1,25 @@
 //! The outside: files, a sink for what is printed, and observers of the records.
 #![tactic(auto)]
 
+mod counts;
 mod files;
+mod host;
+mod memory_files;
+mod memory_sink;
+mod named;
 mod observer;
 mod refused;
+mod rest;
 mod sink;
+#[cfg(test)]
+mod steps;
 
+pub use counts::Numbers;
 pub use files::Files;
+pub use host::{HostFiles, HostSink};
+pub use memory_files::MemoryFiles;
+pub use memory_sink::MemorySink;
+pub use named::FileList;
 pub use observer::{Next, Observer};
 pub use refused::Refused;
 pub use sink::Sink;

@@ -6,13 +6,16 @@ use std::test::Fail;
 
 // What stands before the length, and from there to the length of DoABC.
 const MAGIC: &str = "FWS\n";
+
 const START: [u8; 26] = [
     0x78, 0x00, 0x04, 0xE2, 0x00, 0x00, 0x0E, 0xA6, 0x00, 0x00, 0x18, 0x01, 0x00, 0x44, 0x11, 0x08,
     0x00, 0x00, 0x00, 0x43, 0x02, 0xFF, 0xFF, 0xFF, 0xBF, 0x14,
 ];
+
 const NAME_OF_ABC: &str = "\0\0\0\0flexc\0";
 
 const LONG_57: &str = "aaaaaaaaaabbbbbbbbbbccccccccccddddddddddeeeeeeeeeefffffff";
+
 const LONG_58: &str = "aaaaaaaaaabbbbbbbbbbccccccccccddddddddddeeeeeeeeeeffffffff";
 
 #[test]

@@ -9,10 +9,15 @@ use flex_base::{Bytes, NoMemory, Text};
 use std::alloc::Global;
 
 const END: u16 = 0;
+
 const SHOW_FRAME: u16 = 1;
+
 const SET_BACKGROUND_COLOR: u16 = 9;
+
 const FILE_ATTRIBUTES: u16 = 69;
+
 const SYMBOL_CLASS: u16 = 76;
+
 const DO_ABC: u16 = 82;
 
 /// The version of the written files.
@@ -51,7 +56,16 @@ fn file_length(main: &str, abc: &[u8]) -> u32
     ensures { result ≡ 8 + length (content main.now abc.now) }
 {
     let symbol_header = if main.len() + 5 < 63 { 2 } else { 6 };
-    let length = 8 + FRAME_HEADER.len() + 6 + 5 + 16 + abc.len() + symbol_header + 5 + main.len() + 4;
+    let length = 8
+        + FRAME_HEADER.len()
+        + 6
+        + 5
+        + 16
+        + abc.len()
+        + symbol_header
+        + 5
+        + main.len()
+        + 4;
     length as u32
 }
 

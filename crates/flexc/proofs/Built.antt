@@ -1,0 +1,46 @@
+-- The file that is built of a document is played.
+use Rattle.std.proofs.Common.{◌≡◌, ◌≢◌, ℕ, ◌+◌, ◌≤◌, List, [], length, refl, ap, ◌∙◌, arith}
+use Rattle.std.specs.Prelude.{All}
+use Rattle.std.specs.Str.{IsUtf8}
+use Rattle.std.proofs.lemmas.List.Elements.{All-from_recursion}
+use Rattle.swf_tags.specs.Spelling.{swf_bytes}
+use Rattle.abc_format.specs.Spelling.{abc_bytes}
+use Rattle.abc_format.specs.declared.records.Abc.{Abc}
+use Rattle.flexc.specs.declared.source.Label.{Label}
+use Rattle.flexc.specs.Source.{IsShort}
+use Rattle.flexc.specs.Emitted.{abc_of, main_text}
+use Rattle.flexc.specs.Playable.{IsPlayable}
+use Rattle.flexc.proofs.SwfReadBack.{swf_is_read_back}
+use Rattle.flexc.proofs.AbcReadBack.{abc_is_read_back}
+use Rattle.flexc.proofs.WrittenSize.{text-brief}
+use Rattle.flexc.proofs.Written.{length-abc_bytes, abc_is_written}
+
+main_is_utf8 : IsUtf8 main_text
+main_is_utf8 = (text-brief main_text refl (omega arith)).valid
+
+main_has_no_zero : All (λ byte. byte ≢ 0) main_text
+main_has_no_zero = All-from_recursion (λ byte. byte ≢ 0) main_text ((λ e. omega arith), ((λ e. omega arith), ((λ e. omega arith), ((λ e. omega arith), tt))))
+
+-- the file of a document of not too many Labels
+pub built_is_playable : (labels : List Label) → length labels ≤ 100 → All IsShort labels → IsPlayable (swf_bytes main_text (abc_bytes (abc_of labels)))
+built_is_playable labels few short =
+    let size = length-abc_bytes labels few short in
+    record {
+      parts = record { main = main_text; abc = abc_bytes (abc_of labels) };
+      abc = abc_of labels;
+      file = swf_is_read_back main_text (abc_bytes (abc_of labels)) main_has_no_zero main_is_utf8 (omega (arith, size));
+      program = abc_is_read_back (abc_of labels) (abc_is_written labels few short);
+    }
+
+-- the file is that of the document
+pub built_from : (labels : List Label) (abc : Abc) (main code swf : List ℕ) → swf ≡ swf_bytes main code → main ≡ main_text → code ≡ abc_bytes abc → abc ≡ abc_of labels → swf ≡ swf_bytes main_text (abc_bytes (abc_of labels))
+built_from labels abc main code swf is name bytes emitted =
+    is ∙ ap (λ m. swf_bytes m code) name ∙ ap (swf_bytes main_text) (bytes ∙ ap abc_bytes emitted)
+
+-- the file isn't too long
+pub built_fits : (labels : List Label) (abc : Abc) (main code : List ℕ) → length labels ≤ 100 → All IsShort labels → main ≡ main_text → code ≡ abc_bytes abc → abc ≡ abc_of labels → length main + length code ≤ 2000000000
+built_fits labels abc main code few short name bytes emitted =
+    let size = length-abc_bytes labels few short in
+    let four : length main ≡ 4 = ap length name in
+    let all : length code ≡ length (abc_bytes (abc_of labels)) = ap length (bytes ∙ ap abc_bytes emitted) in
+    omega (arith, size, four, all)

@@ -1,0 +1,14 @@
+pub mod Stages
+pub mod Progress
+pub mod AbcNumbers
+pub mod AbcReadBack
+pub mod Lists
+pub mod SwfReadBack
+pub mod Tags
+pub mod Texts
+pub mod Each
+pub mod Sizes
+pub mod WrittenSize
+pub mod Written
+pub mod Whole
+pub mod Built

@@ -1,0 +1,91 @@
+-- Bytes of which there are at most so many.
+use Rattle.std.proofs.Common.{◌≡◌, ℕ, zero, suc, ◌+◌, ◌*◌, ◌<◌, ◌≤◌, List, [], ◌∷◌, ◌++◌, length, refl, ap, arith, length-append}
+use Rattle.std.specs.Prelude.{nat_lt, if◌then◌else◌, Bool, true, false, ◌%◌, ◌/◌, All, ℤ}
+use Rattle.std.specs.List.{flat_map}
+use Rattle.std.proofs.Math.Nat.{mul-suc, mul-le-mul_left}
+use Rattle.std.proofs.lemmas.List.Elements.{All-head, All-tail, All-nil, All-cons}
+use Rattle.abc_format.specs.Numbers.{groups, u30_bytes, int_bytes}
+use Rattle.abc_format.specs.Spelling.{counted, table, table_count}
+use Rattle.flexc.specs.Emitted.{each_from}
+
+-- bytes, so many at most
+pub record Within (most : ℕ) (bytes : List ℕ) : Type 0 where
+  pub within : length bytes ≤ most
+
+-- a higher bound serves as well
+pub loosen : {m n : ℕ} {bytes : List ℕ} → Within m bytes → m ≤ n → Within n bytes
+loosen w le = let h = w.within in record { within = omega arith }
+
+-- nothing
+pub none : Within 0 []
+none = record { within = omega arith }
+
+-- a byte
+pub one : (byte : ℕ) → Within 1 (byte ∷ [])
+one byte = record { within = omega arith }
+
+infixl 60 ◌⊕◌
+-- one piece behind another
+pub ◌⊕◌ : {m n : ℕ} {a b : List ℕ} → Within m a → Within n b → Within (m + n) (a ++ b)
+◌⊕◌ {a = a} {b = b} v w =
+    let h = v.within in
+    let g = w.within in
+    record { within = omega (arith, length-append a b) }
+
+-- so many groups take at most so many bytes
+length-groups : (k n : ℕ) → length (groups k n) ≤ k
+length-groups zero n = omega arith
+length-groups (suc k) n = by (nat_lt n 128) (length-groups k (n / 128))
+  where
+    by : (t : Bool) → length (groups k (n / 128)) ≤ k → length (if t then n ∷ [] else (128 + n % 128) ∷ groups k (n / 128)) ≤ suc k
+    by true h = omega arith
+    by false h = omega arith
+
+-- a u30 in its shortest spelling
+pub u30-within : (n : ℕ) → Within 5 (u30_bytes n)
+unfolding u30_bytes
+u30-within n = record { within = length-groups 5 n }
+
+-- an int of the pool
+pub int-within : (z : ℤ) → Within 5 (int_bytes z)
+int-within z = record { within = omega arith }
+
+-- items of at most so many bytes each
+pub flat_map-within : {A : Type 0} (f : A → List ℕ) (most : ℕ) (items : List A) → All (λ x. Within most (f x)) items → Within (most * length items) (flat_map f items)
+flat_map-within f most [] all = record { within = omega arith }
+flat_map-within f most (x ∷ xs) all =
+    let h = All-head (λ y. Within most (f y)) x xs all in
+    let g = flat_map-within f most xs (All-tail (λ y. Within most (f y)) x xs all) in
+    loosen (h ⊕ g) (omega (arith, mul-suc most (length xs)))
+
+-- a list of at most so many such items
+pub counted-within : {A : Type 0} (f : A → List ℕ) (most count : ℕ) (items : List A) → All (λ x. Within most (f x)) items → length items ≤ count → Within (5 + most * count) (counted f items)
+counted-within f most count items all le =
+    let h = u30-within (length items) ⊕ flat_map-within f most items all in
+    loosen h (omega (arith, mul-le-mul_left most le))
+
+-- a table of the pool of at most so many such items
+pub table-within : {A : Type 0} (f : A → List ℕ) (most count : ℕ) (items : List A) → All (λ x. Within most (f x)) items → length items ≤ count → Within (5 + most * count) (table f items)
+table-within f most count items all le =
+    let h = u30-within (table_count items) ⊕ flat_map-within f most items all in
+    loosen h (omega (arith, mul-le-mul_left most le))
+
+-- an empty table of the pool
+pub empty-within : {A : Type 0} (f : A → List ℕ) → Within 5 (table f [])
+empty-within f = u30-within 0 ⊕ none
+
+-- what is made for each number has at most so many bytes each time
+pub each_from-within : (f : ℕ → List ℕ) (most k n : ℕ) → ((i : ℕ) → Within most (f i)) → Within (most * n) (each_from f k n)
+each_from-within f most k zero each = record { within = omega arith }
+each_from-within f most k (suc n) each =
+    loosen (each k ⊕ each_from-within f most (suc k) n each) (omega (arith, mul-suc most n))
+
+-- one item for each number
+pub each_from-length : {A : Type 0} (f : ℕ → A) (k n : ℕ) → length (each_from (λ i. f i ∷ []) k n) ≡ n
+each_from-length f k zero = refl
+each_from-length f k (suc n) = ap suc (each_from-length f (suc k) n)
+
+-- what holds of the item of each number holds of them all
+pub each_from-all : {A : Type 0} (P : A → Type 0) (f : ℕ → A) (k n most : ℕ) → k + n ≤ most → ((i : ℕ) → i < most → P (f i)) → All P (each_from (λ i. f i ∷ []) k n)
+each_from-all P f k zero most le each = All-nil P
+each_from-all P f k (suc n) most le each = All-cons P (f k) (each_from (λ i. f i ∷ []) (suc k) n) (each k (omega arith)) (each_from-all P f (suc k) n most (omega arith) each)

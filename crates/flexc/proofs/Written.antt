@@ -1,0 +1,197 @@
+-- The ABC of a document is one that is written whole.
+use Rattle.std.proofs.Common.{ℕ, ◌+◌, ◌*◌, ◌<◌, ◌≤◌, List, [], ◌∷◌, ◌++◌, length, refl, arith}
+use Rattle.std.specs.Prelude.{All, pos}
+use Rattle.std.specs.Int.{w32}
+use Rattle.std.specs.List.{flat_map}
+use Rattle.std.proofs.lemmas.Int.{fits_signed_from_abs}
+use Rattle.std.proofs.lemmas.List.Elements.{All-nil, All-cons, All-from_recursion}
+use Rattle.abc_format.specs.Spelling.{abc_bytes}
+use Rattle.abc_format.specs.declared.records.Multiname.TheVariants.{QName}
+use Rattle.flexc.specs.declared.source.Label.{Label}
+use Rattle.flexc.specs.declared.instruction.Instruction.TheVariants.{ReturnVoid}
+use Rattle.flexc.specs.Code.{encode_all}
+use Rattle.flexc.specs.AbcLaws.{IsU30, IsList, IsInt, IsText, IsNamespace, IsMultiname, IsPool, IsMethod, IsMetadata, IsItem, IsTrait, IsInstance, IsClass, IsScript, IsBody, IsWritten}
+use Rattle.flexc.specs.Source.{IsShort}
+use Rattle.flexc.specs.Emitted.{each_from, fixed_names, fixed_strings, label_strings, namespaces, id_string, id_trait, building_trait, class_trait, plain_method, bindable, class_info, script_info, instance_of, instance_traits, script_code, constructor_code, building_code, body, bodies_of, pool_of, abc_of}
+use Rattle.flexc.proofs.Sizes.{Within, each_from-length, each_from-all}
+use Rattle.flexc.proofs.WrittenSize.{IsBrief, encode_all-within, building_code-within, instance_traits-length, instance_traits-all, names-length, names-all, strings-length, strings-brief, abc-within}
+
+-- the ABC of a document isn't long
+pub length-abc_bytes : (labels : List Label) → length labels ≤ 100 → All IsShort labels → length (abc_bytes (abc_of labels)) ≤ 1000000
+length-abc_bytes labels few short = let w = abc-within labels few short in let h = w.within in omega arith
+
+-- a list of none
+is_empty : {A : Type 0} (P : A → Type 0) → IsList P []
+is_empty P = record { short = omega arith; each = All-nil P }
+
+-- a list of one
+is_single : {A : Type 0} (P : A → Type 0) (x : A) → P x → IsList P (x ∷ [])
+is_single P x p = record { short = omega arith; each = All-cons P x [] p (All-nil P) }
+
+-- a list of four
+is_four : {A : Type 0} (P : A → Type 0) (a b c d : A) → P a → P b → P c → P d → IsList P (a ∷ b ∷ c ∷ d ∷ [])
+is_four P a b c d p q r s =
+    record { short = omega arith; each = All-cons P a (b ∷ c ∷ d ∷ []) p (All-cons P b (c ∷ d ∷ []) q (All-cons P c (d ∷ []) r (All-cons P d [] s (All-nil P)))) }
+
+-- a low number is a u30
+low : (n : ℕ) → n < 1000 → IsU30 n
+low n lt = record { below = omega arith }
+
+-- the ints of the pool
+ints-written : (count : ℕ) → count ≤ 100 → IsList IsInt (each_from (λ k. pos k ∷ []) 0 count)
+ints-written count few =
+    let e = each_from-length pos 0 count in
+    record {
+      short = omega arith;
+      each = each_from-all IsInt pos 0 count 100 (omega arith) (λ k lt. record { fits = fits_signed_from_abs w32 (pos k) (omega arith) });
+    }
+
+-- the strings of the pool
+strings-written : (labels : List Label) → length labels ≤ 100 → All IsShort labels → IsList IsText (fixed_strings ++ flat_map label_strings labels)
+strings-written labels few short =
+    let e = strings-length labels in
+    let brief = strings-brief labels short in
+    let text : (t : List ℕ) → IsBrief t → IsText t = λ t b. let h = b.short in record { short = omega arith; valid = b.valid } in
+    record { short = omega arith; each = λ k d lt. text _ (brief k d lt) }
+
+-- the namespaces of the pool
+namespaces-written : IsList IsNamespace namespaces
+namespaces-written =
+    record {
+      short = omega arith;
+      each = All-from_recursion IsNamespace namespaces (record { name = low 0 (omega arith) }, (record { name = low 2 (omega arith) }, (record { name = low 6 (omega arith) }, tt)));
+    }
+
+-- the names of the pool
+names-written : (count : ℕ) → count ≤ 100 → IsList IsMultiname (fixed_names ++ each_from (λ k. QName 1 (id_string k) ∷ []) 0 count)
+names-written count few =
+    let e = names-length count in
+    record { short = omega arith; each = names-all IsMultiname count few (λ namespace name lt less. (low namespace lt, low name less)) }
+
+-- the pool
+pool-written : (labels : List Label) → length labels ≤ 100 → All IsShort labels → IsPool (pool_of labels)
+pool-written labels few short = record {
+  integers = ints-written (length labels) few;
+  unsigned_integers = refl;
+  doubles = refl;
+  strings = strings-written labels few short;
+  namespaces = namespaces-written;
+  namespace_sets = refl;
+  multinames = names-written (length labels) few;
+}
+
+-- the methods
+method-written : IsMethod plain_method
+method-written = record {
+  return_type = low 0 (omega arith);
+  param_types = is_empty IsU30;
+  name = low 0 (omega arith);
+  not_optional = refl;
+  not_named = refl;
+  options = refl;
+  param_names = refl;
+}
+
+-- the metadata
+metadata-written : IsMetadata bindable
+metadata-written = record { name = low 9 (omega arith); items = is_empty IsItem }
+
+-- the slot of a Label's id
+id_trait-written : (k : ℕ) → k < 100 → IsTrait (id_trait k)
+id_trait-written k lt = record {
+  name = record { below = omega arith };
+  kind = (low 0 (omega arith), low 3 (omega arith), refl, refl);
+  attributes = omega arith;
+  metadata = is_single IsU30 0 (low 0 (omega arith));
+  none = λ e. absurd (omega arith);
+}
+
+-- the method that builds the document
+building_trait-written : IsTrait building_trait
+building_trait-written = record {
+  name = low 6 (omega arith);
+  kind = (low 0 (omega arith), low 3 (omega arith));
+  attributes = omega arith;
+  metadata = is_empty IsU30;
+  none = λ e. refl;
+}
+
+-- the slot of the class
+class_trait-written : IsTrait class_trait
+class_trait-written = record {
+  name = low 1 (omega arith);
+  kind = (low 0 (omega arith), low 0 (omega arith));
+  attributes = omega arith;
+  metadata = is_empty IsU30;
+  none = λ e. refl;
+}
+
+-- the traits of the instance
+traits-written : (count : ℕ) → count ≤ 100 → IsList IsTrait (instance_traits count)
+traits-written count few =
+    let e = instance_traits-length count in
+    record { short = omega arith; each = instance_traits-all IsTrait count few id_trait-written building_trait-written }
+
+-- the instance
+instance-written : (count : ℕ) → count ≤ 100 → IsInstance (instance_of count)
+instance-written count few = record {
+  name = low 1 (omega arith);
+  super_name = low 2 (omega arith);
+  unprotected = refl;
+  protected_namespace = refl;
+  interfaces = is_empty IsU30;
+  iinit = low 2 (omega arith);
+  traits = traits-written count few;
+}
+
+-- the class
+class-written : IsClass class_info
+class-written = record { cinit = low 1 (omega arith); traits = is_empty IsTrait }
+
+-- the script
+script-written : IsScript script_info
+script-written = record { init = low 0 (omega arith); traits = is_single IsTrait class_trait class_trait-written }
+
+-- a body whose code isn't long
+body-written : (method max_stack local_count most : ℕ) (code : List ℕ) → method < 1000 → max_stack < 1000 → local_count < 1000 → Within most code → most < 1000000
+    → IsBody (body method max_stack local_count code)
+body-written method max_stack local_count most code is_method is_stack is_count w lt = let h = w.within in record {
+  method = low method is_method;
+  max_stack = low max_stack is_stack;
+  local_count = low local_count is_count;
+  init_scope_depth = low 0 (omega arith);
+  max_scope_depth = low 0 (omega arith);
+  code = omega arith;
+  exceptions = refl;
+  traits = is_empty IsTrait;
+}
+
+-- the bodies
+bodies-written : (count : ℕ) → count ≤ 100 → IsList IsBody (bodies_of count)
+bodies-written count few =
+    let script = encode_all script_code in
+    let static = encode_all (ReturnVoid ∷ []) in
+    let constructor = encode_all constructor_code in
+    is_four
+    IsBody
+    (body 0 2 1 script)
+    (body 1 0 1 static)
+    (body 2 1 1 constructor)
+    (body 3 4 2 (building_code count))
+    (body-written 0 2 1 55 script (omega arith) (omega arith) (omega arith) (encode_all-within script_code) (omega arith))
+    (body-written 1 0 1 11 static (omega arith) (omega arith) (omega arith) (encode_all-within (ReturnVoid ∷ [])) (omega arith))
+    (body-written 2 1 1 55 constructor (omega arith) (omega arith) (omega arith) (encode_all-within constructor_code) (omega arith))
+    (body-written 3 4 2 (154 * count + 11) (building_code count) (omega arith) (omega arith) (omega arith) (building_code-within count) (omega arith))
+
+-- the ABC of a document is of the forms that are read back
+pub abc_is_written : (labels : List Label) → length labels ≤ 100 → All IsShort labels → IsWritten (abc_of labels)
+abc_is_written labels few short = record {
+  constant_pool = pool-written labels few short;
+  methods = is_four IsMethod plain_method plain_method plain_method plain_method method-written method-written method-written method-written;
+  metadata = is_single IsMetadata bindable metadata-written;
+  instances = is_single IsInstance (instance_of (length labels)) (instance-written (length labels) few);
+  classes = is_single IsClass class_info class-written;
+  as_many = refl;
+  scripts = is_single IsScript script_info script-written;
+  method_bodies = bodies-written (length labels) few;
+}

@@ -1,0 +1,272 @@
+-- How many bytes the ABC of a document has at most.
+use Rattle.std.proofs.Common.{◌≡◌, ℕ, ◌+◌, ◌*◌, ◌<◌, ◌≤◌, List, [], ◌∷◌, ◌++◌, length, refl, arith, length-append}
+use Rattle.std.specs.Prelude.{nat_lt, true, All, pos, codes}
+use Rattle.std.specs.Str.{IsAscii, IsUtf8}
+use Rattle.std.proofs.lemmas.Bool.{ltb-true}
+use Rattle.std.proofs.lemmas.Str.{IsUtf8-from_ascii}
+use Rattle.std.proofs.lemmas.Str.Ascii.{IsAscii-from_all}
+use Rattle.std.proofs.lemmas.List.Sums.{AllPass-from_list_all}
+use Rattle.byteorder.specs.Endian.{little_bytes}
+use Rattle.std.specs.List.{flat_map, list_all}
+use Rattle.std.proofs.lemmas.List.Elements.{All-head, All-tail, All-nil, All-cons, All-append, All-from_recursion}
+use Rattle.abc_format.specs.Numbers.{u30_bytes, int_bytes}
+use Rattle.abc_format.specs.Spelling.{counted, table, string_bytes_of, namespace_bytes, multiname_bytes, method_bytes, metadata_bytes, trait_bytes, instance_bytes, class_bytes, script_bytes, body_bytes, pool_bytes, abc_bytes}
+use Rattle.abc_format.specs.declared.records.Multiname.{Multiname}
+use Rattle.abc_format.specs.declared.records.Multiname.TheVariants.{QName}
+use Rattle.abc_format.specs.declared.records.Trait.{Trait}
+use Rattle.flexc.specs.declared.source.Label.{Label}
+use Rattle.flexc.specs.Source.{IsShort}
+use Rattle.flexc.specs.declared.instruction.Instruction.{Instruction}
+use Rattle.flexc.specs.declared.instruction.Instruction.TheVariants.{PushString, PushInt, ReturnVoid, ConstructSuper, ConstructProp, CallPropVoid, NewClass, FindPropStrict, GetLex, SetProperty, InitProperty, GetLocal0, GetLocal1, SetLocal1}
+use Rattle.flexc.specs.Code.{encode, encode_all}
+use Rattle.flexc.specs.Emitted.{each_from, id_name, id_trait, building_trait, class_trait, plain_method, bindable, class_info, script_info, instance_of, instance_traits, label_code, building_code, script_code, constructor_code, body, bodies_of, namespaces, id_string, fixed_names, fixed_strings, label_strings, main_text, pool_of, abc_of}
+use Rattle.flexc.proofs.Sizes.{Within, loosen, none, one, ◌⊕◌, u30-within, int-within, counted-within, table-within, empty-within, each_from-within, each_from-length, each_from-all}
+
+-- an instruction has at most two operands
+pub encode-within : (i : Instruction) → Within 11 (encode i)
+encode-within (PushString string) = loosen (one 0x2C ⊕ u30-within string) (omega arith)
+encode-within (PushInt int) = loosen (one 0x2D ⊕ u30-within int) (omega arith)
+encode-within ReturnVoid = loosen (one 0x47) (omega arith)
+encode-within (ConstructSuper count) = loosen (one 0x49 ⊕ u30-within count) (omega arith)
+encode-within (ConstructProp name count) = loosen (one 0x4A ⊕ u30-within name ⊕ u30-within count) (omega arith)
+encode-within (CallPropVoid name count) = loosen (one 0x4F ⊕ u30-within name ⊕ u30-within count) (omega arith)
+encode-within (NewClass class) = loosen (one 0x58 ⊕ u30-within class) (omega arith)
+encode-within (FindPropStrict name) = loosen (one 0x5D ⊕ u30-within name) (omega arith)
+encode-within (GetLex name) = loosen (one 0x60 ⊕ u30-within name) (omega arith)
+encode-within (SetProperty name) = loosen (one 0x61 ⊕ u30-within name) (omega arith)
+encode-within (InitProperty name) = loosen (one 0x68 ⊕ u30-within name) (omega arith)
+encode-within GetLocal0 = loosen (one 0xD0) (omega arith)
+encode-within GetLocal1 = loosen (one 0xD1) (omega arith)
+encode-within SetLocal1 = loosen (one 0xD5) (omega arith)
+
+-- so many instructions
+pub encode_all-within : (is : List Instruction) → Within (11 * length is) (encode_all is)
+encode_all-within [] = none
+encode_all-within (i ∷ is) = loosen (encode-within i ⊕ encode_all-within is) (omega arith)
+
+-- the code that builds so many Labels
+pub building_code-within : (count : ℕ) → Within (154 * count + 11) (building_code count)
+building_code-within count =
+    each_from-within (λ k. encode_all (label_code k)) 154 0 count (λ k. encode_all-within (label_code k)) ⊕ encode_all-within (ReturnVoid ∷ [])
+
+-- the size of a method
+method-within : Within 16 (method_bytes plain_method)
+method-within = let h = u30-within 0 ⊕ u30-within 0 ⊕ none ⊕ u30-within 0 ⊕ one 0 ⊕ none ⊕ none in loosen h (omega arith)
+
+-- the size of the metadata
+metadata-within : Within 15 (metadata_bytes bindable)
+metadata-within = let h = u30-within 9 ⊕ (u30-within 0 ⊕ none) in loosen h (omega arith)
+
+-- a slot with one number of metadata
+id_trait-within : (k : ℕ) → Within 40 (trait_bytes (id_trait k))
+id_trait-within k =
+    let slot = u30-within 0 ⊕ u30-within 3 ⊕ (u30-within 0 ⊕ none) in
+    let metadata = u30-within 1 ⊕ (u30-within 0 ⊕ none) in
+    let h = u30-within (id_name k) ⊕ one 64 ⊕ slot ⊕ metadata in
+    loosen h (omega arith)
+
+-- the size of the trait of the method that builds
+building_trait-within : Within 40 (trait_bytes building_trait)
+building_trait-within = let h = u30-within 6 ⊕ one 1 ⊕ (u30-within 0 ⊕ u30-within 3) ⊕ none in loosen h (omega arith)
+
+-- the size of the trait of the class
+class_trait-within : Within 40 (trait_bytes class_trait)
+class_trait-within = let h = u30-within 1 ⊕ one 4 ⊕ (u30-within 0 ⊕ u30-within 0) ⊕ none in loosen h (omega arith)
+
+-- a slot for each Label, and the method that builds them
+pub instance_traits-length : (count : ℕ) → length (instance_traits count) ≡ count + 1
+instance_traits-length count =
+    let e = each_from-length id_trait 0 count in
+    omega (arith, length-append (each_from (λ k. id_trait k ∷ []) 0 count) (building_trait ∷ []))
+
+-- what holds of the slots and of the method holds of all the traits
+pub instance_traits-all : (P : Trait → Type 0) (count : ℕ) → count ≤ 100 → ((k : ℕ) → k < 100 → P (id_trait k)) → P building_trait → All P (instance_traits count)
+instance_traits-all P count few slot method =
+    let slots = each_from-all P id_trait 0 count 100 (omega arith) slot in
+    All-append P (each_from (λ k. id_trait k ∷ []) 0 count) (building_trait ∷ []) slots (All-cons P building_trait [] method (All-nil P))
+
+-- the size of all the traits of the instance
+traits-within : (count : ℕ) → count ≤ 100 → Within 4045 (counted trait_bytes (instance_traits count))
+traits-within count few =
+    let all = instance_traits-all (λ t. Within 40 (trait_bytes t)) count few (λ k lt. id_trait-within k) building_trait-within in
+    let e = instance_traits-length count in
+    counted-within trait_bytes 40 101 (instance_traits count) all (omega arith)
+
+-- the size of the instance
+instance-within : (count : ℕ) → count ≤ 100 → Within 4100 (instance_bytes (instance_of count))
+instance-within count few =
+    let h = u30-within 1 ⊕ u30-within 2 ⊕ one 1 ⊕ none ⊕ (u30-within 0 ⊕ none) ⊕ u30-within 2 ⊕ traits-within count few in
+    loosen h (omega arith)
+
+-- the size of the class
+class-within : Within 10 (class_bytes class_info)
+class-within = let h = u30-within 1 ⊕ (u30-within 0 ⊕ none) in loosen h (omega arith)
+
+-- the size of the script
+script-within : Within 50 (script_bytes script_info)
+script-within = let h = u30-within 0 ⊕ (u30-within 1 ⊕ (class_trait-within ⊕ none)) in loosen h (omega arith)
+
+-- a body has its code, and at most so many bytes besides
+body-within : (method max_stack local_count most : ℕ) (code : List ℕ) → Within most code → Within (most + 40) (body_bytes (body method max_stack local_count code))
+body-within method max_stack local_count most code w =
+    let front = u30-within method ⊕ u30-within max_stack ⊕ u30-within local_count ⊕ u30-within 0 ⊕ u30-within 0 ⊕ u30-within (length code) in
+    let h = front ⊕ w ⊕ (u30-within 0 ⊕ none) ⊕ (u30-within 0 ⊕ none) in
+    loosen h (omega arith)
+
+-- the size of all the bodies
+bodies-within : (count : ℕ) → count ≤ 100 → Within 16000 (counted body_bytes (bodies_of count))
+bodies-within count few =
+    let script = body-within 0 2 1 55 (encode_all script_code) (encode_all-within script_code) in
+    let static = body-within 1 0 1 11 (encode_all (ReturnVoid ∷ [])) (encode_all-within (ReturnVoid ∷ [])) in
+    let constructor = body-within 2 1 1 55 (encode_all constructor_code) (encode_all-within constructor_code) in
+    let building = body-within 3 4 2 (154 * count + 11) (building_code count) (building_code-within count) in
+    let h = u30-within 4 ⊕ (script ⊕ (static ⊕ (constructor ⊕ (building ⊕ none)))) in
+    loosen h (omega arith)
+
+-- the size of the namespaces
+namespaces-within : Within 40 (table namespace_bytes namespaces)
+namespaces-within =
+    let h = u30-within 4 ⊕ (one 0x16 ⊕ u30-within 0 ⊕ (one 0x16 ⊕ u30-within 2 ⊕ (one 0x08 ⊕ u30-within 6 ⊕ none))) in
+    loosen h (omega arith)
+
+-- the size of a name
+qname-within : (namespace name : ℕ) → Within 11 (multiname_bytes (QName namespace name))
+qname-within namespace name = let h = one 7 ⊕ u30-within namespace ⊕ u30-within name in loosen h (omega arith)
+
+-- what holds of each low pair of numbers as a name holds of all the names
+pub names-all : (P : Multiname → Type 0) (count : ℕ) → count ≤ 100 → ((namespace name : ℕ) → namespace < 1000 → name < 1000 → P (QName namespace name))
+    → All P (fixed_names ++ each_from (λ k. QName 1 (id_string k) ∷ []) 0 count)
+names-all P count few each =
+    let fixed = All-from_recursion P fixed_names (
+      each 1 1 (omega arith) (omega arith),
+      (
+        each 2 3 (omega arith) (omega arith),
+        (
+          each 2 4 (omega arith) (omega arith),
+          (
+            each 1 5 (omega arith) (omega arith),
+            (
+              each 3 7 (omega arith) (omega arith),
+              (each 3 8 (omega arith) (omega arith), tt),
+            ),
+          ),
+        ),
+      ),
+    ) in
+    let others = each_from-all P (λ k. QName 1 (id_string k)) 0 count 100 (omega arith) (λ k lt. each 1 (id_string k) (omega arith) (omega arith)) in
+    All-append P fixed_names (each_from (λ k. QName 1 (id_string k) ∷ []) 0 count) fixed others
+
+-- how many names the pool has
+pub names-length : (count : ℕ) → length (fixed_names ++ each_from (λ k. QName 1 (id_string k) ∷ []) 0 count) ≡ count + 6
+names-length count = let e = each_from-length (λ k. QName 1 (id_string k)) 0 count in omega arith
+
+-- the size of all the names
+names-within : (count : ℕ) → count ≤ 100 → Within 1200 (table multiname_bytes (fixed_names ++ each_from (λ k. QName 1 (id_string k) ∷ []) 0 count))
+names-within count few =
+    let names = fixed_names ++ each_from (λ k. QName 1 (id_string k) ∷ []) 0 count in
+    let e = names-length count in
+    let all = names-all (λ m. Within 11 (multiname_bytes m)) count few (λ namespace name lt less. qname-within namespace name) in
+    loosen (table-within multiname_bytes 11 106 names all (omega arith)) (omega arith)
+
+-- the size of all the ints
+ints-within : (count : ℕ) → count ≤ 100 → Within 505 (table int_bytes (each_from (λ k. pos k ∷ []) 0 count))
+ints-within count few =
+    let e = each_from-length pos 0 count in
+    let all = each_from-all (λ z. Within 5 (int_bytes z)) pos 0 count 100 (omega arith) (λ k lt. int-within (pos k)) in
+    table-within int_bytes 5 100 (each_from (λ k. pos k ∷ []) 0 count) all (omega arith)
+
+-- a string that isn't long
+pub record IsBrief (text : List ℕ) : Type 0 where
+  pub short : length text ≤ 200
+  pub valid : IsUtf8 text
+
+-- the size of such a string
+string-within : (text : List ℕ) → IsBrief text → Within 205 (string_bytes_of text)
+string-within text brief =
+    let h : Within 200 text = record { within = brief.short } in
+    u30-within (length text) ⊕ h
+
+-- a Label has two strings
+label_strings-length : (labels : List Label) → length (flat_map label_strings labels) ≡ 2 * length labels
+label_strings-length [] = refl
+label_strings-length (label ∷ labels) = let e = label_strings-length labels in omega arith
+
+-- no string of a short Label is long
+label_strings-brief : (labels : List Label) → All IsShort labels → All IsBrief (flat_map label_strings labels)
+label_strings-brief [] all = All-nil IsBrief
+label_strings-brief (label ∷ labels) all =
+    let short = All-head IsShort label labels all in
+    let id : length label.id ≤ 32 = short.id in
+    let brief_id : IsBrief label.id = record { short = omega arith; valid = short.id_valid } in
+    let brief_text : IsBrief label.text = record { short = short.text; valid = short.text_valid } in
+    let others = label_strings-brief labels (All-tail IsShort label labels all) in
+    All-append IsBrief (label_strings label) (flat_map label_strings labels) (All-from_recursion IsBrief (label_strings label) (brief_id, (brief_text, tt))) others
+
+-- how many strings the pool has
+pub strings-length : (labels : List Label) → length (fixed_strings ++ flat_map label_strings labels) ≡ 9 + 2 * length labels
+strings-length labels = let e = label_strings-length labels in omega arith
+
+-- a text of ASCII
+pub text-brief : (text : List ℕ) → list_all (λ b. nat_lt b 128) text ≡ true → length text ≤ 200 → IsBrief text
+text-brief text e short =
+    let pass = AllPass-from_list_all (λ b. nat_lt b 128) text e in
+    let ascii : IsAscii text = IsAscii-from_all text (λ k d lt. ltb-true _ 128 (pass k d lt)) in
+    record { short = short; valid = IsUtf8-from_ascii text ascii }
+
+-- no string of the pool is long
+pub strings-brief : (labels : List Label) → All IsShort labels → All IsBrief (fixed_strings ++ flat_map label_strings labels)
+strings-brief labels all =
+    let fixed = All-from_recursion IsBrief fixed_strings (
+      text-brief main_text refl (omega arith),
+      (
+        text-brief (codes "spark.components") refl (omega arith),
+        (
+          text-brief (codes "Application") refl (omega arith),
+          (
+            text-brief (codes "Label") refl (omega arith),
+            (
+              text-brief (codes "text") refl (omega arith),
+              (
+                text-brief (codes "flexc") refl (omega arith),
+                (
+                  text-brief (codes "place") refl (omega arith),
+                  (
+                    text-brief (codes "#building") refl (omega arith),
+                    (text-brief (codes "Bindable") refl (omega arith), tt),
+                  ),
+                ),
+              ),
+            ),
+          ),
+        ),
+      ),
+    ) in
+    All-append IsBrief fixed_strings (flat_map label_strings labels) fixed (label_strings-brief labels all)
+
+-- the size of all the strings
+strings-within : (labels : List Label) → length labels ≤ 100 → All IsShort labels → Within 43000 (table string_bytes_of (fixed_strings ++ flat_map label_strings labels))
+strings-within labels few all =
+    let strings = fixed_strings ++ flat_map label_strings labels in
+    let e = strings-length labels in
+    let brief = strings-brief labels all in
+    let each : All (λ t. Within 205 (string_bytes_of t)) strings = λ k d lt. string-within _ (brief k d lt) in
+    loosen (table-within string_bytes_of 205 209 strings each (omega arith)) (omega arith)
+
+-- the size of the pool
+pool-within : (labels : List Label) → length labels ≤ 100 → All IsShort labels → Within 45000 (pool_bytes (pool_of labels))
+pool-within labels few all =
+    let numbers = ints-within (length labels) few ⊕ empty-within u30_bytes ⊕ empty-within (little_bytes 8) in
+    let h = numbers ⊕ strings-within labels few all ⊕ namespaces-within ⊕ empty-within (counted u30_bytes) ⊕ names-within (length labels) few in
+    loosen h (omega arith)
+
+-- the size of the ABC of a document
+pub abc-within : (labels : List Label) → length labels ≤ 100 → All IsShort labels → Within 100000 (abc_bytes (abc_of labels))
+abc-within labels few all =
+    let methods = u30-within 4 ⊕ (method-within ⊕ (method-within ⊕ (method-within ⊕ (method-within ⊕ none)))) in
+    let metadata = u30-within 1 ⊕ (metadata-within ⊕ none) in
+    let instances = instance-within (length labels) few ⊕ none in
+    let scripts = u30-within 1 ⊕ (script-within ⊕ none) in
+    let version : Within 4 (little_bytes 2 16 ++ little_bytes 2 46) = record { within = omega arith } in
+    let front = version ⊕ pool-within labels few all ⊕ methods ⊕ metadata in
+    let h = front ⊕ u30-within 1 ⊕ instances ⊕ (class-within ⊕ none) ⊕ scripts ⊕ bodies-within (length labels) few in
+    loosen h (omega arith)

@@ -1,0 +1,7 @@
+use Rattle.std.proofs.Common.{◌≡◌, [], ◌∷◌, ◌++◌}
+use Rattle.abc_format.specs.declared.records.Multiname.TheVariants.{QName}
+use Rattle.flexc.specs.Emitted.{each_from, id_string}
+use Rattle.flexc.proofs.emit.multinames.Given as goal
+
+abbrev pub invariant-loop-label : goal.invariant-loop-label
+invariant-loop-label l = l.multinames ≡ l.initial.multinames ++ each_from (λ k. QName 1 (id_string k) ∷ []) 0 l.label

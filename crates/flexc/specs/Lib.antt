@@ -1,0 +1,14 @@
+pub mod Names
+pub mod Stage
+pub mod Code
+pub mod Tables
+pub mod Machine
+pub mod Progress
+pub mod SwfReader
+pub mod SwfLaws
+pub mod AbcReader
+pub mod AbcLaws
+pub mod Emitted
+pub mod Source
+pub mod Whole
+pub mod Playable

@@ -1,0 +1,209 @@
+// The top call.
+
+ghost use Rattle.std.specs.Prelude.{◌≡◌, [], IfOk};
+ghost use Rattle.abc_format.specs.Spelling.{abc_bytes};
+ghost use Rattle.swf_tags.specs.Spelling.{swf_bytes};
+ghost use Rattle.flexc.specs.Emitted.{abc_of, main_text};
+ghost use Rattle.flexc.specs.Playable.{IsPlayable};
+ghost use Rattle.flexc.specs.Source.{IsSmall};
+
+use crate::emit::{MAIN, emit};
+use crate::input::{ReadRefusal, read_file};
+use crate::output::{WriteRefusal, print, write_file};
+use crate::play::{PlayRefusal, play};
+use crate::source::{Document, SourceRefusal, read_source};
+use crate::words::read_words;
+use abc_format::write_abc;
+use flex_base::{Bytes, NoMemory, Outcome, Text};
+use flex_edge::{Files, Observer, Sink};
+use std::alloc::Global;
+use swf_tags::write_swf;
+
+/// The number of turns of a play.
+const TURNS: u32 = 1_000_000;
+
+/// How a command ended: the exit status of the program.
+#[derive(Clone, Copy, Debug, PartialEq, Eq)]
+pub struct Status(pub u8);
+
+impl Status {
+    /// The text was printed whole, and the play ended by itself.
+    pub const ENDED: Status = Status(0);
+    /// The play stopped.
+    pub const STOPPED: Status = Status(1);
+    /// The words are no command.
+    pub const BAD_USAGE: Status = Status(2);
+    /// The sources aren't built.
+    pub const SOURCE_FAULT: Status = Status(3);
+    /// The script isn't played.
+    pub const SCRIPT_FAULT: Status = Status(4);
+    /// The turns were spent.
+    pub const TURNS_SPENT: Status = Status(6);
+    /// A file couldn't be read.
+    pub const READ_FAULT: Status = Status(7);
+    /// A file or the printed text couldn't be written.
+    pub const WRITE_FAULT: Status = Status(8);
+    /// Memory was refused.
+    pub const NO_MEMORY: Status = Status(9);
+    /// A file is too long.
+    pub const TOO_LONG: Status = Status(10);
+    /// The machine couldn't go on.
+    pub const MACHINE_FAULT: Status = Status(11);
+}
+
+/// Why a command printed no whole trace.
+#[derive(Clone, Copy)]
+enum Failure<'a> {
+    BadUsage,
+    CannotRead(&'a str),
+    TooLong(&'a str),
+    NotYetBuilt(&'a str),
+    ScriptNotYetBuilt,
+    CannotWrite(&'a str),
+    CannotPrint,
+    NoMemory,
+}
+
+impl From<NoMemory> for Failure<'_> {
+    fn from(_refusal: NoMemory) -> Self {
+        Failure::NoMemory
+    }
+}
+
+/// Does what the words say: `run --script S --out O MAIN` builds the main source, writes the SWF
+/// file O, plays its bytes with the script, and prints the trace. This project's own.
+///
+/// The order of work is: the words, the main source read, the script read, the source judged, the
+/// script judged, the file written, the play.
+pub fn command<F: Files, O: Sink>(
+    alloc: Global,
+    words: &[String],
+    files: &mut F,
+    out: &mut O,
+    observers: &mut Vec<Box<dyn Observer>>,
+) -> Status
+    requires { observers.old.items ≡ [] }
+{
+    let _none = observers;
+    match build_and_play(alloc, words, files, out) {
+        Ok(outcome) => status_of(outcome),
+        Err(failure) => report(out, failure),
+    }
+}
+
+// The work of `run`, in order.
+fn build_and_play<'a, F: Files, O: Sink>(
+    alloc: Global,
+    words: &'a [String],
+    files: &mut F,
+    out: &mut O,
+) -> Result<Outcome, Failure<'a>> {
+    let Some(run) = read_words(words) else {
+        return Err(Failure::BadUsage);
+    };
+    let source = read(alloc, files, run.main)?;
+    let script = read(alloc, files, run.script)?;
+    let document = match read_source(alloc, run.main, source.as_slice()) {
+        Ok(document) => document,
+        Err(SourceRefusal::NotYetBuilt) => return Err(Failure::NotYetBuilt(run.main)),
+        Err(SourceRefusal::NoMemory) => return Err(Failure::NoMemory),
+    };
+    if !script.is_empty() {
+        return Err(Failure::ScriptNotYetBuilt);
+    }
+    let swf = build(alloc, &document)?;
+    match write_file(files, run.out, swf.as_slice()) {
+        Ok(()) => {}
+        Err(WriteRefusal::Failed) => return Err(Failure::CannotWrite(run.out)),
+        Err(WriteRefusal::NoMemory) => return Err(Failure::NoMemory),
+    }
+    match play(alloc, swf.as_slice(), TURNS, out) {
+        Ok(outcome) => Ok(outcome),
+        Err(PlayRefusal::WriteFault) => Err(Failure::CannotPrint),
+        Err(PlayRefusal::NoMemory) => Err(Failure::NoMemory),
+    }
+}
+
+// A whole file.
+fn read<'a, F: Files>(alloc: Global, files: &mut F, name: &'a str) -> Result<Bytes, Failure<'a>> {
+    match read_file(alloc, files, name) {
+        Ok(bytes) => Ok(bytes),
+        Err(ReadRefusal::Failed) => Err(Failure::CannotRead(name)),
+        Err(ReadRefusal::TooLong) => Err(Failure::TooLong(name)),
+        Err(ReadRefusal::NoMemory) => Err(Failure::NoMemory),
+    }
+}
+
+// The SWF file of a document.
+fn build(alloc: Global, document: &Document) -> Result<Bytes, NoMemory>
+    requires { IsSmall document.now }
+    ensures is { IfOk result (λ bytes. bytes ≡ swf_bytes main_text (abc_bytes (abc_of document.now.labels))) }
+    ensures playable { IfOk result IsPlayable }
+{
+    let abc = emit(alloc, document)?;
+    let code = write_abc(alloc, &abc)?;
+    let main = Text::make(alloc, MAIN)?;
+    let swf = write_swf(alloc, &main, code.as_slice())?;
+    Ok(swf)
+}
+
+// The status of a play's outcome.
+fn status_of(outcome: Outcome) -> Status {
+    match outcome {
+        Outcome::Ended => Status::ENDED,
+        Outcome::Stopped(_) => Status::STOPPED,
+        Outcome::TurnsSpent => Status::TURNS_SPENT,
+        Outcome::Fault(_) => Status::MACHINE_FAULT,
+    }
+}
+
+// Prints the line of a failure, and gives its status.
+fn report<O: Sink>(out: &mut O, failure: Failure<'_>) -> Status {
+    match failure {
+        Failure::BadUsage => print_line(out, Status::BAD_USAGE, "flexc: bad usage", "", ""),
+        Failure::CannotRead(name) => print_line(out, Status::READ_FAULT, "cannot read ", name, ""),
+        Failure::TooLong(name) => print_line(out, Status::TOO_LONG, "", name, ": too long"),
+        Failure::NotYetBuilt(name) => {
+            print_line(out, Status::SOURCE_FAULT, "", name, ":1:1: NotYetBuilt")
+        }
+        Failure::ScriptNotYetBuilt => print_line(
+            out,
+            Status::SCRIPT_FAULT,
+            "script:1: not yet built",
+            "",
+            "",
+        ),
+        Failure::CannotWrite(name) => {
+            print_line(out, Status::WRITE_FAULT, "cannot write ", name, "")
+        }
+        Failure::CannotPrint => Status::WRITE_FAULT,
+        Failure::NoMemory => Status::NO_MEMORY,
+    }
+}
+
+// Prints a line of three pieces, and gives the status that it explains.
+fn print_line<O: Sink>(
+    out: &mut O,
+    status: Status,
+    before: &str,
+    name: &str,
+    after: &str,
+) -> Status {
+    match print_pieces(out, before, name, after) {
+        Ok(()) => status,
+        Err(WriteRefusal::Failed) => Status::WRITE_FAULT,
+        Err(WriteRefusal::NoMemory) => Status::NO_MEMORY,
+    }
+}
+
+fn print_pieces<O: Sink>(
+    out: &mut O,
+    before: &str,
+    name: &str,
+    after: &str,
+) -> Result<(), WriteRefusal> {
+    print(out, before.as_bytes())?;
+    print(out, name.as_bytes())?;
+    print(out, after.as_bytes())?;
+    print(out, b"\n")
+}
