@@ -1,5 +1,5 @@
 -- The bytes of instructions.
-use Rattle.std.specs.Prelude.{ℕ, suc, ◌+◌, List, [], ◌∷◌, ◌++◌, length, drop, if◌then◌else◌, ◌==◌, nat_lt, Option, Some, None}
+use Rattle.std.specs.Prelude.{ℕ, suc, ◌+◌, List, [], ◌∷◌, ◌++◌, drop, if◌then◌else◌, ◌==◌, nat_lt, Option, Some, None}
 use Rattle.abc_format.specs.Numbers.{Spelled, u30_bytes, u32_at}
 use Rattle.flexc.specs.declared.instruction.Instruction.{Instruction}
 use Rattle.flexc.specs.declared.instruction.Instruction.TheVariants.{PushString, PushInt, ReturnVoid, ConstructSuper, ConstructProp, CallPropVoid, NewClass, FindPropStrict, GetLex, SetProperty, InitProperty, GetLocal0, GetLocal1, SetLocal1}

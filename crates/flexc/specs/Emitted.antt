@@ -1,5 +1,5 @@
 -- The ABC of a document.
-use Rattle.std.specs.Prelude.{ℕ, zero, suc, ◌+◌, ◌*◌, List, [], ◌∷◌, ◌++◌, length, ℤ, pos, codes}
+use Rattle.std.specs.Prelude.{ℕ, zero, suc, ◌+◌, ◌*◌, List, [], ◌∷◌, ◌++◌, length, pos, codes}
 use Rattle.std.specs.List.{flat_map}
 use Rattle.abc_format.specs.declared.records.Abc.{Abc}
 use Rattle.abc_format.specs.declared.records.ConstantPool.{ConstantPool}

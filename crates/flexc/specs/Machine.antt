@@ -1,5 +1,5 @@
 -- The machine: one step, on the machine between two steps.
-use Rattle.std.specs.Prelude.{◌≡◌, ◌≢◌, ℕ, zero, suc, ◌+◌, ◌-◌, List, [], ◌∷◌, ◌++◌, length, Bool, true, false, ◌&&◌, if◌then◌else◌, nat_lt, ◌==◌, Option, Some, None, slice_get, slice_set, option_map, replicate, codes}
+use Rattle.std.specs.Prelude.{◌≡◌, ◌≢◌, ℕ, zero, suc, ◌+◌, ◌-◌, List, [], ◌∷◌, length, Bool, true, false, if◌then◌else◌, nat_lt, ◌==◌, Option, Some, None, slice_get, slice_set, option_map, replicate, codes}
 use Rattle.std.specs.Option.{option_or}
 use Rattle.std.specs.Str.{bytes_eq}
 use Rattle.abc_format.specs.declared.records.Abc.{Abc}

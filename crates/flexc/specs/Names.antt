@@ -1,7 +1,6 @@
 -- The names of an ABC's pool, by their texts.
 use Rattle.std.specs.Prelude.{ℕ, zero, suc, List, [], Bool, ◌&&◌, Option, Some, None, slice_get, codes, if◌then◌else◌}
 use Rattle.std.specs.Str.{bytes_eq}
-use Rattle.std.specs.Option.{option_and_then}
 use Rattle.abc_format.specs.declared.records.Abc.{Abc}
 use Rattle.abc_format.specs.declared.records.Namespace.{Namespace}
 use Rattle.abc_format.specs.declared.records.Multiname.{Multiname}

@@ -1,5 +1,5 @@
 -- What holds of a source that is built.
-use Rattle.std.specs.Prelude.{ℕ, ◌≤◌, length, All}
+use Rattle.std.specs.Prelude.{◌≤◌, length, All}
 use Rattle.std.specs.Str.{IsUtf8}
 use Rattle.flexc.specs.declared.source.Label.{Label}
 use Rattle.flexc.specs.declared.source.Document.{Document}

@@ -1,7 +1,6 @@
 -- The objects of a play, and what is done with them.
-use Rattle.std.specs.Prelude.{ℕ, zero, suc, ◌+◌, List, [], ◌∷◌, ◌++◌, length, Bool, true, false, if◌then◌else◌, nat_lt, ◌==◌, Option, Some, None, Result, Ok, Err, ◌≡◌, slice_get, slice_set, codes}
+use Rattle.std.specs.Prelude.{ℕ, zero, suc, ◌+◌, List, [], ◌∷◌, ◌++◌, length, Bool, true, false, if◌then◌else◌, nat_lt, ◌==◌, Option, Some, None, Result, Ok, Err, ◌≡◌, slice_get, codes}
 use Rattle.std.specs.Str.{bytes_eq}
-use Rattle.flex_base.specs.Value.{same}
 use Rattle.flex_base.specs.declared.memory.NoMemory.{NoMemory}
 use Rattle.flex_base.specs.declared.outcome.RunRefusal.{RunRefusal}
 use Rattle.flex_base.specs.declared.outcome.RunRefusal.TheVariants as refusal

@@ -1,5 +1,5 @@
 -- What the machine looks up in an ABC.
-use Rattle.std.specs.Prelude.{ℕ, zero, suc, ◌+◌, ◌-◌, List, [], ◌∷◌, ◌++◌, length, drop, Bool, true, false, ◌&&◌, ◌||◌, option_map, if◌then◌else◌, ◌==◌, Option, Some, None, slice_get, replicate}
+use Rattle.std.specs.Prelude.{ℕ, suc, ◌-◌, List, [], ◌∷◌, ◌++◌, drop, Bool, true, false, ◌&&◌, ◌||◌, option_map, if◌then◌else◌, ◌==◌, Option, Some, None, slice_get, replicate}
 use Rattle.std.specs.Str.{bytes_eq}
 use Rattle.abc_format.specs.declared.records.Abc.{Abc}
 use Rattle.abc_format.specs.declared.records.MethodBody.{MethodBody}

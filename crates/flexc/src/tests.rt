@@ -48,6 +48,24 @@ struct Left {
     sink: MemorySink,
 }
 
+impl Left {
+    // Fails unless the command ended with this status and printed this text.
+    fn shows(&self, status: u8, printed: &str) -> Result<(), &'static str> {
+        if self.status != status {
+            return Err("another status");
+        }
+        if self.sink.taken().as_slice() != printed.as_bytes() {
+            return Err("another text");
+        }
+        Ok(())
+    }
+
+    // The bytes of the written file.
+    fn written(&self) -> Result<&[u8], &'static str> {
+        Ok(self.files.file("hello.swf").ok_or("no file")?.as_slice())
+    }
+}
+
 // The command over a source of this name with these elements, and a script.
 fn perform(
     alloc: Global,
@@ -123,43 +141,43 @@ fn owned(alloc: Global, words: &[&str]) -> Result<Vec<String>, NoMemory> {
 
 const NOT_YET: &str = "Main.mxml:1:1: NotYetBuilt\n";
 
-const LONGEST: &str =
-    "<s:Label id=\"abcdefghijklmnopqrstuvwxyzabcdef\" text=\"01234567890123456789012345678901234567890123456789012345678901234567890123456789012345678901234567890123456789012345678901234567890123456789012345678901234567890123456789012345678901234567890123456789\"/>";
-
-const LONGEST_TRACE: &str =
-    "new 1 Main\nnew 2 Label\nset 1.abcdefghijklmnopqrstuvwxyzabcdef #2\nset 2.text \"01234567890123456789012345678901234567890123456789012345678901234567890123456789012345678901234567890123456789012345678901234567890123456789012345678901234567890123456789012345678901234567890123456789\"\nadd 1 2 0\nend\n";
+#[test]
+fn a_label_is_made(rt: HostRuntime) -> Result<(), Fail> {
+    let left = perform(rt.alloc(), WORDS, "Main.mxml", LABEL, "")?;
+    left.shows(0, TRACE)?;
+    Ok(())
+}
 
 #[test]
-fn sources_and_scripts(rt: HostRuntime) -> Result<(), Fail> {
+fn an_empty_text_is_not_written(rt: HostRuntime) -> Result<(), Fail> {
+    let label = "<s:Label id=\"a\" text=\"\"/>";
+    let left = perform(rt.alloc(), WORDS, "Main.mxml", label, "")?;
+    left.shows(0, "new 1 Main\nnew 2 Label\nset 1.a #2\nadd 1 2 0\nend\n")?;
+    Ok(())
+}
+
+#[test]
+fn other_sources_are_not_yet_built(rt: HostRuntime) -> Result<(), Fail> {
     let cases = [
-        (LABEL, "", 0, TRACE),
-        (
-            "<s:Label id=\"a\" text=\"\"/>",
-            "",
-            0,
-            "new 1 Main\nnew 2 Label\nset 1.a #2\nadd 1 2 0\nend\n",
-        ),
-        (LONGEST, "", 0, LONGEST_TRACE),
-        ("<s:Label id=\"greeting\" text=\"Hi\" />", "", 3, NOT_YET),
-        ("<s:Label id=\"width\" text=\"Hi\"/>", "", 3, NOT_YET),
-        ("<s:Label id=\"class\" text=\"Hi\"/>", "", 3, NOT_YET),
-        ("<s:Label id=\"a\" text=\"{b}\"/>", "", 3, NOT_YET),
-        ("", "#", 3, NOT_YET),
-        (LABEL, "#", 4, "script:1: not yet built\n"),
+        "",
+        "<s:Label id=\"greeting\" text=\"Hi\" />",
+        "<s:Label id=\"width\" text=\"Hi\"/>",
+        "<s:Label id=\"class\" text=\"Hi\"/>",
+        "<s:Label id=\"a\" text=\"{b}\"/>",
     ];
-    for (elements, script, status, printed) in cases {
-        let left = perform(rt.alloc(), WORDS, "Main.mxml", elements, script)?;
-        assert_eq!(rt; left.status, status, "at {elements}");
-        assert_eq!(rt;
-            left.sink.taken().as_slice(),
-            printed.as_bytes(),
-            "at {elements}"
-        );
+    for elements in cases {
+        let left = perform(rt.alloc(), WORDS, "Main.mxml", elements, "#")?;
+        left.shows(3, NOT_YET)?;
     }
     Ok(())
 }
 
-const BAD_USAGE: &str = "flexc: bad usage\n";
+#[test]
+fn a_script_with_lines_is_not_yet_read(rt: HostRuntime) -> Result<(), Fail> {
+    let left = perform(rt.alloc(), WORDS, "Main.mxml", LABEL, "#")?;
+    left.shows(4, "script:1: not yet built\n")?;
+    Ok(())
+}
 
 const SEVEN: &[&str] = &[
     "run",
@@ -190,46 +208,81 @@ const OTHER_MAIN: &[&str] = &[
 ];
 
 #[test]
-fn words_and_names(rt: HostRuntime) -> Result<(), Fail> {
-    let cases: [(&[&str], &str, u8, &str); 6] = [
-        (&[], "Main.mxml", 2, BAD_USAGE),
-        (&["fly"], "Main.mxml", 2, BAD_USAGE),
-        (SEVEN, "Main.mxml", 2, BAD_USAGE),
-        (WORDS, "main.mxml", 7, "cannot read Main.mxml\n"),
-        (NO_SCRIPT, "Main.mxml", 7, "cannot read none.txt\n"),
-        (OTHER_MAIN, "Other.mxml", 3, "Other.mxml:1:1: NotYetBuilt\n"),
-    ];
-    for (words, name, status, printed) in cases {
-        let left = perform(rt.alloc(), words, name, LABEL, "")?;
-        assert_eq!(rt; left.status, status, "at {printed}");
-        assert_eq!(rt;
-            left.sink.taken().as_slice(),
-            printed.as_bytes(),
-            "at {printed}"
-        );
-        assert!(rt; left.files.file("hello.swf").is_none());
+fn words_of_no_command(rt: HostRuntime) -> Result<(), Fail> {
+    let cases: [&[&str]; 3] = [&[], &["fly"], SEVEN];
+    for words in cases {
+        let left = perform(rt.alloc(), words, "Main.mxml", LABEL, "")?;
+        left.shows(2, "flexc: bad usage\n")?;
     }
     Ok(())
 }
 
 #[test]
-fn sizes_of_sources(rt: HostRuntime) -> Result<(), Fail> {
-    let cases = [
-        (1_048_576, 3, NOT_YET),
-        (1_048_577, 10, "Main.mxml: too long\n"),
-    ];
-    for (length, status, printed) in cases {
-        let source = Bytes::from_vec(vec![in rt.alloc(); b' '; length]?);
-        let list = files(rt.alloc(), "Main.mxml", source, "")?;
-        let left = perform_on(rt.alloc(), WORDS, list, FAIR)?;
-        assert_eq!(rt; left.status, status, "at {length}");
-        assert_eq!(rt;
-            left.sink.taken().as_slice(),
-            printed.as_bytes(),
-            "at {length}"
-        );
-    }
+fn files_that_do_not_stand(rt: HostRuntime) -> Result<(), Fail> {
+    let left = perform(rt.alloc(), WORDS, "main.mxml", LABEL, "")?;
+    left.shows(7, "cannot read Main.mxml\n")?;
+    let left = perform(rt.alloc(), NO_SCRIPT, "Main.mxml", LABEL, "")?;
+    left.shows(7, "cannot read none.txt\n")?;
+    assert!(rt; left.files.file("hello.swf").is_none());
     Ok(())
+}
+
+#[test]
+fn main_has_its_name(rt: HostRuntime) -> Result<(), Fail> {
+    let left = perform(rt.alloc(), OTHER_MAIN, "Other.mxml", LABEL, "")?;
+    left.shows(3, "Other.mxml:1:1: NotYetBuilt\n")?;
+    assert!(rt; left.files.file("hello.swf").is_none());
+    Ok(())
+}
+
+// The command over a source with a Label whose id and text have these lengths.
+fn perform_lengths(alloc: Global, id: usize, text: usize) -> Result<Left, NoMemory> {
+    let mut source = Bytes::new(alloc);
+    source.extend(OPENING.as_bytes())?;
+    source.extend(b"<s:Label id=\"")?;
+    for _ in 0..id {
+        source.push(b'a')?;
+    }
+    source.extend(b"\" text=\"")?;
+    for _ in 0..text {
+        source.push(b'0')?;
+    }
+    source.extend(b"\"/>")?;
+    source.extend(CLOSING.as_bytes())?;
+    let list = files(alloc, "Main.mxml", source, "")?;
+    perform_on(alloc, WORDS, list, FAIR)
+}
+
+#[test]
+fn lengths_of_ids_and_texts(rt: HostRuntime) -> Result<(), Fail> {
+    let longest = perform_lengths(rt.alloc(), 32, 200)?;
+    assert_eq!(rt; longest.status, 0);
+    perform_lengths(rt.alloc(), 33, 200)?.shows(3, NOT_YET)?;
+    perform_lengths(rt.alloc(), 32, 201)?.shows(3, NOT_YET)?;
+    Ok(())
+}
+
+// The command over a source of this many spaces.
+fn perform_spaces(alloc: Global, length: usize) -> Result<Left, NoMemory> {
+    let source = Bytes::from_vec(vec![in alloc; b' '; length]?);
+    let list = files(alloc, "Main.mxml", source, "")?;
+    perform_on(alloc, WORDS, list, FAIR)
+}
+
+#[test]
+fn sizes_of_sources(rt: HostRuntime) -> Result<(), Fail> {
+    let left = perform_spaces(rt.alloc(), 1_048_576)?;
+    left.shows(3, NOT_YET)?;
+    let left = perform_spaces(rt.alloc(), 1_048_577)?;
+    left.shows(10, "Main.mxml: too long\n")?;
+    Ok(())
+}
+
+// The command over a source with the label, where calls of the files or the sink fail.
+fn perform_failing(alloc: Global, outside: Outside) -> Result<Left, NoMemory> {
+    let source = source(alloc, LABEL)?;
+    let list = files(alloc, "Main.mxml", source, "")?;
+    perform_on(alloc, WORDS, list, outside)
 }
 
 // The source of the first run has 149 bytes: where each call moves 16 bytes, it is begun and read
@@ -238,49 +291,31 @@ const THIRD_APPEND: u64 = 1 + 11 + 2 + 1 + 3;
 
 #[test]
 fn a_write_that_fails(rt: HostRuntime) -> Result<(), Fail> {
-    let alloc = rt.alloc();
-    let whole = perform(alloc, WORDS, "Main.mxml", LABEL, "")?;
-    let file = whole.files.file("hello.swf").ok_or("no file")?.as_slice();
-    assert!(rt; file.len() > 67);
+    let whole = perform_failing(rt.alloc(), FAIR)?;
+    let outside = Outside {
+        most: 16,
+        fails: THIRD_APPEND,
+        sink_fails: 0,
+    };
+    let part = perform_failing(rt.alloc(), outside)?;
+    part.shows(8, "cannot write hello.swf\n")?;
+    let written = part.written()?;
+    assert_eq!(rt; written.len(), 32);
+    assert!(rt; whole.written()?.starts_with(written));
+    Ok(())
+}
 
-    let list = files(alloc, "Main.mxml", source(alloc, LABEL)?, "")?;
-    let part = perform_on(
-        alloc,
-        WORDS,
-        list,
-        Outside {
-            most: 16,
-            fails: THIRD_APPEND,
-            sink_fails: 0,
-        },
-    )?;
-    assert_eq!(rt; part.status, 8);
-    assert_eq!(rt;
-        part.sink.taken().as_slice(),
-        b"cannot write hello.swf\n".as_slice()
-    );
-    let left = part.files.file("hello.swf").ok_or("no file")?.as_slice();
-    assert_eq!(rt; left, &file[..32]);
-
-    let list = files(alloc, "Main.mxml", source(alloc, LABEL)?, "")?;
-    let unprinted = perform_on(
-        alloc,
-        WORDS,
-        list,
-        Outside {
-            most: 1,
-            fails: 0,
-            sink_fails: 1,
-        },
-    )?;
-    assert_eq!(rt; unprinted.status, 8);
-    assert_eq!(rt; unprinted.sink.taken().len(), 0);
-    let kept = unprinted
-        .files
-        .file("hello.swf")
-        .ok_or("no file")?
-        .as_slice();
-    assert_eq!(rt; kept, file);
+#[test]
+fn a_print_that_fails(rt: HostRuntime) -> Result<(), Fail> {
+    let whole = perform_failing(rt.alloc(), FAIR)?;
+    let outside = Outside {
+        most: 1,
+        fails: 0,
+        sink_fails: 1,
+    };
+    let unprinted = perform_failing(rt.alloc(), outside)?;
+    unprinted.shows(8, "")?;
+    assert!(rt; unprinted.written()? == whole.written()?);
     Ok(())
 }
 
@@ -298,15 +333,24 @@ const END: &[u8] = b"\x09\x13\x01\0\0\0Main\0\x40\0\0\0";
 #[test]
 fn the_layout_of_the_file(rt: HostRuntime) -> Result<(), Fail> {
     let left = perform(rt.alloc(), WORDS, "Main.mxml", LABEL, "")?;
-    let file = left.files.file("hello.swf").ok_or("no file")?.as_slice();
-    let length = file.len();
-    assert!(rt; length > 67 && length < 1000);
-    let body = length - 53;
-    assert_eq!(rt; &file[..4], MAGIC);
-    assert_eq!(rt; file[4] as usize + 256 * file[5] as usize, length);
-    assert_eq!(rt; &file[8..34], START);
-    assert_eq!(rt; file[34] as usize + 256 * file[35] as usize, body);
-    assert_eq!(rt; &file[38..52], BEFORE_ABC);
-    assert_eq!(rt; &file[length - 15..], END);
+    let file = left.written()?;
+    assert!(rt; file.len() > 67);
+    assert!(rt; file.starts_with(MAGIC));
+    assert!(rt; &file[8..34] == START);
+    assert!(rt; &file[38..52] == BEFORE_ABC);
+    assert!(rt; file.ends_with(END));
+    Ok(())
+}
+
+#[test]
+fn the_lengths_in_the_file(rt: HostRuntime) -> Result<(), Fail> {
+    let left = perform(rt.alloc(), WORDS, "Main.mxml", LABEL, "")?;
+    let file = left.written()?;
+    assert!(rt; file.len() > 67);
+    assert_eq!(rt; file[4] as usize + 256 * file[5] as usize, file.len());
+    assert_eq!(rt;
+        file[34] as usize + 256 * file[35] as usize,
+        file.len() - 53
+    );
     Ok(())
 }

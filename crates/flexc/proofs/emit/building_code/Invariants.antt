@@ -1,4 +1,4 @@
-use Rattle.std.proofs.Common.{◌≡◌, [], ◌∷◌, ◌++◌}
+use Rattle.std.proofs.Common.{◌≡◌, ◌++◌}
 use Rattle.flexc.specs.Code.{encode_all}
 use Rattle.flexc.specs.Emitted.{each_from, label_code}
 use Rattle.flexc.proofs.emit.building_code.Given as goal
