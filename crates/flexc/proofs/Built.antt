@@ -9,11 +9,10 @@ use Rattle.abc_format.specs.declared.records.Abc.{Abc}
 use Rattle.flexc.specs.declared.source.Label.{Label}
 use Rattle.flexc.specs.Source.{IsShort}
 use Rattle.flexc.specs.Emitted.{abc_of, main_text}
-use Rattle.flexc.specs.Playable.{IsPlayable}
-use Rattle.flexc.proofs.SwfReadBack.{swf_is_read_back}
-use Rattle.flexc.proofs.AbcReadBack.{abc_is_read_back}
+use Rattle.swf_tags.specs.File.{IsSwf, written_tags}
+use Rattle.swf_tags.proofs.Related.{written-is_swf}
 use Rattle.flexc.proofs.WrittenSize.{text-brief}
-use Rattle.flexc.proofs.Written.{length-abc_bytes, abc_is_written}
+use Rattle.flexc.proofs.Written.{length-abc_bytes}
 
 main_is_utf8 : IsUtf8 main_text
 main_is_utf8 = (text-brief main_text refl (omega arith)).valid
@@ -21,16 +20,12 @@ main_is_utf8 = (text-brief main_text refl (omega arith)).valid
 main_has_no_zero : All (λ byte. byte ≢ 0) main_text
 main_has_no_zero = All-from_recursion (λ byte. byte ≢ 0) main_text ((λ e. omega arith), ((λ e. omega arith), ((λ e. omega arith), ((λ e. omega arith), tt))))
 
--- the file of a document of not too many Labels
-pub built_is_playable : (labels : List Label) → length labels ≤ 100 → All IsShort labels → IsPlayable (swf_bytes main_text (abc_bytes (abc_of labels)))
-built_is_playable labels few short =
+-- the file of a document of not too many Labels is a SWF file
+pub built_is_swf : (labels : List Label) → length labels ≤ 100 → All IsShort labels
+    → IsSwf 10 (written_tags main_text (abc_bytes (abc_of labels))) (abc_bytes (abc_of labels)) main_text (swf_bytes main_text (abc_bytes (abc_of labels)))
+built_is_swf labels few short =
     let size = length-abc_bytes labels few short in
-    record {
-      parts = record { main = main_text; abc = abc_bytes (abc_of labels) };
-      abc = abc_of labels;
-      file = swf_is_read_back main_text (abc_bytes (abc_of labels)) main_has_no_zero main_is_utf8 (omega (arith, size));
-      program = abc_is_read_back (abc_of labels) (abc_is_written labels few short);
-    }
+    written-is_swf main_text (abc_bytes (abc_of labels)) main_has_no_zero main_is_utf8 (omega (arith, size))
 
 -- the file is that of the document
 pub built_from : (labels : List Label) (abc : Abc) (main code swf : List ℕ) → swf ≡ swf_bytes main code → main ≡ main_text → code ≡ abc_bytes abc → abc ≡ abc_of labels → swf ≡ swf_bytes main_text (abc_bytes (abc_of labels))

@@ -1,7 +1,8 @@
--- What is written is read.
+-- Each spelling is read, and so what is written is.
 use Rattle.std.specs.Prelude.{◌≡◌, ℕ, ◌<◌, List, [], length, bit_and, All, Some, ℤ, FitsSigned}
 use Rattle.std.specs.Int.{w32}
 use Rattle.std.specs.Str.{IsUtf8}
+use Rattle.abc_format.specs.Grammar.{IsAbc}
 use Rattle.abc_format.specs.Spelling.{abc_bytes}
 use Rattle.abc_format.specs.declared.records.Abc.{Abc}
 use Rattle.abc_format.specs.declared.records.ConstantPool.{ConstantPool}
@@ -121,6 +122,10 @@ pub record IsWritten (a : Abc) : Type 0 where
   pub scripts : IsList IsScript a.scripts
   pub method_bodies : IsList IsBody a.method_bodies
 
--- each ABC of these forms is read as it was
+-- all bytes that stand for an ABC of these forms are read as it
+abbrev pub AbcIsRead : Type 0
+AbcIsRead = (a : Abc) (bytes : List ℕ) → IsAbc a bytes → IsWritten a → read_abc bytes ≡ Some a
+
+-- each ABC of these forms that is written is read as it was
 abbrev pub AbcIsReadBack : Type 0
 AbcIsReadBack = (a : Abc) → IsWritten a → read_abc (abc_bytes a) ≡ Some a

@@ -12,3 +12,13 @@ pub mod Emitted
 pub mod Source
 pub mod Whole
 pub mod Playable
+pub mod Script
+pub mod Trace
+pub mod World
+pub mod Meaning
+pub mod Playing
+pub mod Printed
+pub mod Examples
+pub mod PlaysAs
+pub mod Command
+pub mod Work

@@ -1,12 +1,17 @@
--- What the bytes of a file must be to be played.
-use Rattle.std.specs.Prelude.{◌≡◌, ℕ, List, Some}
+-- The files that are played.
+use Rattle.std.specs.Prelude.{ℕ, List}
+use Rattle.abc_format.specs.Grammar.{IsAbc}
 use Rattle.abc_format.specs.declared.records.Abc.{Abc}
-use Rattle.flexc.specs.SwfReader.{Parts, read_swf}
-use Rattle.flexc.specs.AbcReader.{read_abc}
+use Rattle.swf_tags.specs.File.{Tag, IsSwf}
+use Rattle.flexc.specs.AbcLaws.{IsWritten}
 
--- a SWF file whose program is read
+-- a SWF file whose program stands for an ABC of the forms that are read
 pub record IsPlayable (swf : List ℕ) : Type 0 where
-  pub parts : Parts
+  pub version : ℕ
+  pub tags : List Tag
+  pub main : List ℕ
+  pub code : List ℕ
   pub abc : Abc
-  pub file : read_swf swf ≡ Some parts
-  pub program : read_abc parts.abc ≡ Some abc
+  pub file : IsSwf version tags code main swf
+  pub program : IsAbc abc code
+  pub forms : IsWritten abc

@@ -1,7 +1,7 @@
 // The reading of an ABC.
 
 ghost use Rattle.std.specs.Prelude.{◌≡◌, MatchResult, IfOk, Some, None, Err};
-ghost use Rattle.flexc.specs.AbcLaws.{AbcIsReadBack};
+ghost use Rattle.flexc.specs.AbcLaws.{AbcIsRead, AbcIsReadBack};
 ghost use Rattle.flexc.specs.AbcReader.{Gives, Refuses, read_abc, read_classes, read_file, read_head};
 
 mod lists;
@@ -110,9 +110,10 @@ fn read_classes(alloc: Global, unread: &mut Unread<'_>) -> Result<Classes, ReadF
     })
 }
 
-/// The law that the reading undoes the writing: what `write_abc` makes of an ABC of the forms that
-/// are read is read as that ABC.
-#[tactic(auto, using(crate::proofs::AbcReadBack::abc_is_read_back))]
+/// The laws that all bytes that stand for an ABC of the forms that are read are read as that ABC,
+/// and so what `write_abc` makes of one.
+#[tactic(auto, using(crate::proofs::AbcRead::abc_is_read_back))]
 pub fn reads_back_abc()
-    ensures { AbcIsReadBack }
+    ensures each_spelling { AbcIsRead }
+    ensures written { AbcIsReadBack }
 {}

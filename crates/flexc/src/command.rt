@@ -1,18 +1,22 @@
 // The top call.
 
-ghost use Rattle.std.specs.Prelude.{◌≡◌, [], IfOk};
+ghost use Rattle.std.specs.Prelude.{◌≡◌, ◌++◌, [], ◌∷◌, IfOk};
 ghost use Rattle.abc_format.specs.Spelling.{abc_bytes};
+ghost use Rattle.flex_base.specs.declared.outcome.Outcome.TheVariants.{Ended};
 ghost use Rattle.swf_tags.specs.Spelling.{swf_bytes};
+ghost use Rattle.flexc.specs.Command.{Course, HasPrintedTrace, RunsWhole, RunsInPart, RefusesRightly, Says, status, texts};
 ghost use Rattle.flexc.specs.Emitted.{abc_of, main_text};
-ghost use Rattle.flexc.specs.Playable.{IsPlayable};
+ghost use Rattle.flexc.specs.PlaysAs.{PlaysAs};
 ghost use Rattle.flexc.specs.Source.{IsSmall};
+ghost use Rattle.flexc.specs.Whole.{Prints};
+ghost use Rattle.flexc.specs.Work.{ReadsDocument, Reports, Works, read_failure};
 
 use crate::emit::{MAIN, emit};
 use crate::input::{ReadRefusal, read_file};
 use crate::output::{WriteRefusal, print, write_file};
-use crate::play::{PlayRefusal, play};
+use crate::play::play;
 use crate::source::{Document, SourceRefusal, read_source};
-use crate::words::read_words;
+use crate::words::{Run, read_words};
 use abc_format::write_abc;
 use flex_base::{Bytes, NoMemory, Outcome, Text};
 use flex_edge::{Files, Observer, Sink};
@@ -64,12 +68,6 @@ enum Failure<'a> {
     NoMemory,
 }
 
-impl From<NoMemory> for Failure<'_> {
-    fn from(_refusal: NoMemory) -> Self {
-        Failure::NoMemory
-    }
-}
-
 /// Does what the words say: `run --script S --out O MAIN` builds the main source, writes the SWF
 /// file O, plays its bytes with the script, and prints the trace. This project's own.
 ///
@@ -83,12 +81,25 @@ pub fn command<F: Files, O: Sink>(
     observers: &mut Vec<Box<dyn Observer>>,
 ) -> Status
     requires { observers.old.items ≡ [] }
+    ensures course { Course (texts words.now) (F.state files.old) (F.state files.new) (O.state out.old) (O.state out.new) result }
+    ensures ended { result ≡ status 0 → HasPrintedTrace (texts words.now) (F.state files.old) (F.state files.new) (O.state out.old) (O.state out.new) }
+    ensures whole { RunsWhole (texts words.now) (F.state files.old) (F.state files.new) (O.state out.old) (O.state out.new) result }
+    ensures refused { RefusesRightly (texts words.now) (F.state files.old) (F.state files.new) (O.state out.old) (O.state out.new) result }
+    ensures part { RunsInPart (texts words.now) (F.state files.old) (F.state files.new) (O.state out.old) (O.state out.new) }
 {
     let _none = observers;
-    match build_and_play(alloc, words, files, out) {
-        Ok(outcome) => status_of(outcome),
-        Err(failure) => report(out, failure),
-    }
+    answer(alloc, words, files, out)
+}
+
+// The status, after a line that says what failed, if something did.
+fn answer<F: Files, O: Sink>(alloc: Global, words: &[String], files: &mut F, out: &mut O) -> Status
+    ensures { Course (texts words.now) (F.state files.old) (F.state files.new) (O.state out.old) (O.state out.new) result }
+{
+    let outcome = match build_and_play(alloc, words, files, out) {
+        Ok(outcome) => outcome,
+        Err(failure) => return report(out, failure),
+    };
+    status_of(outcome)
 }
 
 // The work of `run`, in order.
@@ -97,21 +108,19 @@ fn build_and_play<'a, F: Files, O: Sink>(
     words: &'a [String],
     files: &mut F,
     out: &mut O,
-) -> Result<Outcome, Failure<'a>> {
+) -> Result<Outcome, Failure<'a>>
+    ensures { Works (texts words.now) (F.state files.old) (O.state out.old) result (F.state files.new) (O.state out.new) }
+{
     let Some(run) = read_words(words) else {
         return Err(Failure::BadUsage);
     };
-    let source = read(alloc, files, run.main)?;
-    let script = read(alloc, files, run.script)?;
-    let document = match read_source(alloc, run.main, source.as_slice()) {
+    let document = match read_document(alloc, run, files) {
         Ok(document) => document,
-        Err(SourceRefusal::NotYetBuilt) => return Err(Failure::NotYetBuilt(run.main)),
-        Err(SourceRefusal::NoMemory) => return Err(Failure::NoMemory),
+        Err(failure) => return Err(failure),
     };
-    if !script.is_empty() {
-        return Err(Failure::ScriptNotYetBuilt);
-    }
-    let swf = build(alloc, &document)?;
+    let Ok(swf) = build(alloc, &document) else {
+        return Err(Failure::NoMemory);
+    };
     match write_file(files, run.out, swf.as_slice()) {
         Ok(()) => {}
         Err(WriteRefusal::Failed) => return Err(Failure::CannotWrite(run.out)),
@@ -119,18 +128,48 @@ fn build_and_play<'a, F: Files, O: Sink>(
     }
     match play(alloc, swf.as_slice(), TURNS, out) {
         Ok(outcome) => Ok(outcome),
-        Err(PlayRefusal::WriteFault) => Err(Failure::CannotPrint),
-        Err(PlayRefusal::NoMemory) => Err(Failure::NoMemory),
+        Err(WriteRefusal::Failed) => Err(Failure::CannotPrint),
+        Err(WriteRefusal::NoMemory) => Err(Failure::NoMemory),
     }
 }
 
-// A whole file.
-fn read<'a, F: Files>(alloc: Global, files: &mut F, name: &'a str) -> Result<Bytes, Failure<'a>> {
-    match read_file(alloc, files, name) {
-        Ok(bytes) => Ok(bytes),
-        Err(ReadRefusal::Failed) => Err(Failure::CannotRead(name)),
-        Err(ReadRefusal::TooLong) => Err(Failure::TooLong(name)),
-        Err(ReadRefusal::NoMemory) => Err(Failure::NoMemory),
+// Reads the main source and then the script, and judges them in this order.
+fn read_document<'a, F: Files>(
+    alloc: Global,
+    run: Run<'a>,
+    files: &mut F,
+) -> Result<Document, Failure<'a>>
+    ensures read { ReadsDocument run.entry.script.now run.entry.main.now (F.state files.old) result (F.state files.new) }
+    ensures small { IfOk result IsSmall }
+{
+    let source = match read_file(alloc, files, run.main) {
+        Ok(source) => source,
+        Err(refusal) => return Err(read_failure(refusal, run.main)),
+    };
+    let script = match read_file(alloc, files, run.script) {
+        Ok(script) => script,
+        Err(refusal) => return Err(read_failure(refusal, run.script)),
+    };
+    let document = match read_source(alloc, run.main, source.as_slice()) {
+        Ok(document) => document,
+        Err(SourceRefusal::NotYetBuilt) => return Err(Failure::NotYetBuilt(run.main)),
+        Err(SourceRefusal::NoMemory) => return Err(Failure::NoMemory),
+    };
+    if script.is_empty() {
+        Ok(document)
+    } else {
+        Err(Failure::ScriptNotYetBuilt)
+    }
+}
+
+// Why the file with this name wasn't read.
+fn read_failure<'a>(refusal: ReadRefusal, name: &'a str) -> Failure<'a>
+    ensures { result ≡ read_failure refusal name.entry }
+{
+    match refusal {
+        ReadRefusal::Failed => Failure::CannotRead(name),
+        ReadRefusal::TooLong => Failure::TooLong(name),
+        ReadRefusal::NoMemory => Failure::NoMemory,
     }
 }
 
@@ -138,7 +177,7 @@ fn read<'a, F: Files>(alloc: Global, files: &mut F, name: &'a str) -> Result<Byt
 fn build(alloc: Global, document: &Document) -> Result<Bytes, NoMemory>
     requires { IsSmall document.now }
     ensures is { IfOk result (λ bytes. bytes ≡ swf_bytes main_text (abc_bytes (abc_of document.now.labels))) }
-    ensures playable { IfOk result IsPlayable }
+    ensures plays { IfOk result (λ bytes. PlaysAs bytes document.now) }
 {
     let abc = emit(alloc, document)?;
     let code = write_abc(alloc, &abc)?;
@@ -148,7 +187,9 @@ fn build(alloc: Global, document: &Document) -> Result<Bytes, NoMemory>
 }
 
 // The status of a play's outcome.
-fn status_of(outcome: Outcome) -> Status {
+fn status_of(outcome: Outcome) -> Status
+    ensures { outcome ≡ Ended → result ≡ status 0 }
+{
     match outcome {
         Outcome::Ended => Status::ENDED,
         Outcome::Stopped(_) => Status::STOPPED,
@@ -158,7 +199,9 @@ fn status_of(outcome: Outcome) -> Status {
 }
 
 // Prints the line of a failure, and gives its status.
-fn report<O: Sink>(out: &mut O, failure: Failure<'_>) -> Status {
+fn report<O: Sink>(out: &mut O, failure: Failure<'_>) -> Status
+    ensures { Reports failure.entry (O.state out.old) result (O.state out.new) }
+{
     match failure {
         Failure::BadUsage => print_line(out, Status::BAD_USAGE, "flexc: bad usage", "", ""),
         Failure::CannotRead(name) => print_line(out, Status::READ_FAULT, "cannot read ", name, ""),
@@ -182,13 +225,9 @@ fn report<O: Sink>(out: &mut O, failure: Failure<'_>) -> Status {
 }
 
 // Prints a line of three pieces, and gives the status that it explains.
-fn print_line<O: Sink>(
-    out: &mut O,
-    status: Status,
-    before: &str,
-    name: &str,
-    after: &str,
-) -> Status {
+fn print_line<O: Sink>(out: &mut O, status: Status, before: &str, name: &str, after: &str) -> Status
+    ensures { Says status.0 (before.now ++ (name.now ++ after.now)) (O.state out.old) (O.state out.new) result }
+{
     match print_pieces(out, before, name, after) {
         Ok(()) => status,
         Err(WriteRefusal::Failed) => Status::WRITE_FAULT,
@@ -196,12 +235,15 @@ fn print_line<O: Sink>(
     }
 }
 
+// Prints three pieces and the end of their line.
 fn print_pieces<O: Sink>(
     out: &mut O,
     before: &str,
     name: &str,
     after: &str,
-) -> Result<(), WriteRefusal> {
+) -> Result<(), WriteRefusal>
+    ensures { Prints (O.state out.old) (before.now ++ (name.now ++ (after.now ++ 10 ∷ []))) result (O.state out.new) }
+{
     print(out, before.as_bytes())?;
     print(out, name.as_bytes())?;
     print(out, after.as_bytes())?;

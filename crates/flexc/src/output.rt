@@ -3,6 +3,7 @@
 ghost use Rattle.std.specs.Prelude.{◌≡◌, length, min, take};
 ghost use Rattle.flexc.specs.Whole.{WritesFile, Prints};
 
+use flex_base::NoMemory;
 use flex_edge::{Files, Refused, Sink};
 
 /// The greatest length of a piece that is handed to `append` or `write`.
@@ -28,6 +29,17 @@ impl From<Refused> for WriteRefusal {
             Refused::Failed => WriteRefusal::Failed,
             Refused::NoMemory => WriteRefusal::NoMemory,
         }
+    }
+}
+
+impl From<NoMemory> for WriteRefusal {
+    ghost use Rattle.std.specs.Prelude.{◌≡◌};
+    ghost use Rattle.flexc.specs.declared.output.WriteRefusal.{WriteRefusal};
+
+    ghost from_gives = { λ _ refusal. refusal ≡ WriteRefusal.NoMemory };
+
+    fn from(_refusal: NoMemory) -> WriteRefusal {
+        WriteRefusal::NoMemory
     }
 }
 

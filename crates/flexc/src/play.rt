@@ -1,41 +1,21 @@
 // The playing of a SWF file.
 
-ghost use Rattle.std.specs.Prelude.{◌≡◌, OnOk};
+ghost use Rattle.std.specs.Prelude.{◌≡◌, [], OnOk};
 ghost use Rattle.flexc.specs.Machine.{step};
 ghost use Rattle.flexc.specs.Playable.{IsPlayable};
+ghost use Rattle.flexc.specs.Playing.{ComesTo, boot};
+ghost use Rattle.flexc.specs.Printed.{Plays, PrintsText, Shows, item_lines};
+ghost use Rattle.flexc.specs.Trace.{record_line, with_end};
+ghost use Rattle.flexc.specs.Whole.{Prints};
 
 use crate::abc_reader::{ReadFault, read_abc};
 use crate::machine::Machine;
 use crate::output::{WriteRefusal, print};
 use crate::swf_reader::read_swf;
 use abc_format::Abc;
-use flex_base::{Bytes, NoMemory, Outcome, Text, TraceItem, line_of};
+use flex_base::{Bytes, Outcome, Text, TraceItem, line_of};
 use flex_edge::Sink;
 use std::alloc::Global;
-
-/// Why a file wasn't played to its end.
-#[derive(Clone, Copy, Debug, PartialEq, Eq)]
-pub enum PlayRefusal {
-    /// The sink didn't take a line.
-    WriteFault,
-    /// Memory was refused.
-    NoMemory,
-}
-
-impl From<NoMemory> for PlayRefusal {
-    fn from(_refusal: NoMemory) -> PlayRefusal {
-        PlayRefusal::NoMemory
-    }
-}
-
-impl From<WriteRefusal> for PlayRefusal {
-    fn from(refusal: WriteRefusal) -> PlayRefusal {
-        match refusal {
-            WriteRefusal::Failed => PlayRefusal::WriteFault,
-            WriteRefusal::NoMemory => PlayRefusal::NoMemory,
-        }
-    }
-}
 
 /// Plays a SWF file with so many turns and an empty script, and prints the trace.
 pub fn play<O: Sink>(
@@ -43,20 +23,33 @@ pub fn play<O: Sink>(
     swf: &[u8],
     turns: u32,
     out: &mut O,
-) -> Result<Outcome, PlayRefusal>
+) -> Result<Outcome, WriteRefusal>
     requires { IsPlayable swf.now }
+    ensures { Plays swf.now turns (O.state out.old) result (O.state out.new) }
 {
     let Some(parts) = read_swf(swf) else {
         unreachable!();
     };
-    let abc = match read_abc(alloc, parts.abc) {
-        Ok(abc) => abc,
+    match read_abc(alloc, parts.abc) {
+        Ok(abc) => play_program(alloc, &abc, parts.main, turns, out),
         Err(ReadFault::Bad) => unreachable!(),
-        Err(ReadFault::NoMemory) => return Err(PlayRefusal::NoMemory),
-    };
-    let main = Text::make(alloc, parts.main)?;
+        Err(ReadFault::NoMemory) => Err(WriteRefusal::NoMemory),
+    }
+}
+
+// Plays a program whose main class has this name.
+fn play_program<O: Sink>(
+    alloc: Global,
+    abc: &Abc,
+    main: &str,
+    turns: u32,
+    out: &mut O,
+) -> Result<Outcome, WriteRefusal>
+    ensures { PrintsText (ComesTo abc.now main.now [] (boot abc.now turns)) (O.state out.old) result (O.state out.new) }
+{
+    let main = Text::make(alloc, main)?;
     let mut machine = Machine::load(alloc, abc.classes.len(), turns)?;
-    let outcome = run(alloc, &abc, &main, &mut machine, out)?;
+    let outcome = run(alloc, abc, &main, &mut machine, out)?;
     print_line(alloc, outcome.line().as_bytes(), out)?;
     Ok(outcome)
 }
@@ -69,7 +62,9 @@ fn run<O: Sink>(
     main: &Text,
     machine: &mut Machine,
     out: &mut O,
-) -> Result<Outcome, PlayRefusal> {
+) -> Result<Outcome, WriteRefusal>
+    ensures { Shows abc.now main.now machine.old (O.state out.old) result (O.state out.new) }
+{
     loop {
         if let Some(outcome) = machine.result() {
             return Ok(outcome);
@@ -85,29 +80,30 @@ fn advance<O: Sink>(
     main: &Text,
     machine: &mut Machine,
     out: &mut O,
-) -> Result<(), PlayRefusal>
-    ensures { OnOk result (machine.new ≡ (step abc.now main.now machine.old).machine) }
+) -> Result<(), WriteRefusal>
+    ensures moved { OnOk result (machine.new ≡ (step abc.now main.now machine.old).machine) }
+    ensures printed { Prints (O.state out.old) (item_lines (step abc.now main.now machine.old).item) result (O.state out.new) }
 {
     match machine.step(alloc, abc, main)? {
         None => Ok(()),
-        Some(item) => {
-            print_record(alloc, &item, out)?;
-            Ok(())
-        }
+        Some(item) => print_record(alloc, &item, out),
     }
 }
 
 // Prints the line of a record.
-fn print_record<O: Sink>(alloc: Global, item: &TraceItem, out: &mut O) -> Result<(), PlayRefusal> {
+fn print_record<O: Sink>(alloc: Global, item: &TraceItem, out: &mut O) -> Result<(), WriteRefusal>
+    ensures { Prints (O.state out.old) (record_line item.now) result (O.state out.new) }
+{
     let line = line_of(alloc, item)?;
     print_line(alloc, line.as_slice(), out)
 }
 
 // Prints a line and its end.
-fn print_line<O: Sink>(alloc: Global, line: &[u8], out: &mut O) -> Result<(), PlayRefusal> {
+fn print_line<O: Sink>(alloc: Global, line: &[u8], out: &mut O) -> Result<(), WriteRefusal>
+    ensures { Prints (O.state out.old) (with_end line.now) result (O.state out.new) }
+{
     let mut bytes = Bytes::new(alloc);
     bytes.extend(line)?;
     bytes.push(b'\n')?;
-    print(out, bytes.as_slice())?;
-    Ok(())
+    print(out, bytes.as_slice())
 }

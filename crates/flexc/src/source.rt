@@ -1,9 +1,8 @@
 // The sources that are built so far: an Application with one Label.
 
-ghost use Rattle.std.specs.Prelude.{◌≤◌, length, IfOk, IfSome};
-ghost use Rattle.std.specs.Bool.{OnTrue};
-ghost use Rattle.std.specs.Str.{IsUtf8};
-ghost use Rattle.flexc.specs.Source.{IsSmall};
+ghost use Rattle.std.specs.Prelude.{◌≡◌, ◌≢◌, ◌↔◌, ◌++◌, ℕ, List, IsTrue, IfOk, IfErr, IfSome, IfNone, MatchOption};
+ghost use Rattle.flexc.specs.Examples.{GreetingMeans, EmptyTextMeans, OneTurnMeans};
+ghost use Rattle.flexc.specs.Source.{IsId, IsLetter, IsPlain, IsText, IsLabelSource, IsNoLabelSource, HasDocument, IsNotBuilt, IsSmall, main_name, HasNoQuote, SplitsAtQuote, HasNoAttribute, IsAttribute};
 
 use flex_base::{NoMemory, Sequence, Text};
 use std::alloc::Global;
@@ -31,6 +30,11 @@ pub enum SourceRefusal {
 }
 
 impl From<NoMemory> for SourceRefusal {
+    ghost use Rattle.std.specs.Prelude.{◌≡◌};
+    ghost use Rattle.flexc.specs.declared.source.SourceRefusal.{SourceRefusal};
+
+    ghost from_gives = { λ _ refusal. refusal ≡ SourceRefusal.NoMemory };
+
     fn from(_refusal: NoMemory) -> SourceRefusal {
         SourceRefusal::NoMemory
     }
@@ -109,9 +113,11 @@ const RESERVED: [&str; 53] = [
 
 /// The document of a source, which has this name and these bytes.
 pub fn read_source(alloc: Global, name: &str, bytes: &[u8]) -> Result<Document, SourceRefusal>
-    ensures { IfOk result IsSmall }
+    ensures document { IfOk result (HasDocument name.now bytes.now) }
+    ensures small { IfOk result IsSmall }
+    ensures refused { IfErr result (λ refusal. refusal ≡ SourceRefusal.NotYetBuilt → IsNotBuilt name.now bytes.now) }
 {
-    if name != MAIN_NAME {
+    if !is_main(name) {
         return Err(SourceRefusal::NotYetBuilt);
     }
     let Some((id, text)) = only_label(bytes) else {
@@ -124,20 +130,23 @@ pub fn read_source(alloc: Global, name: &str, bytes: &[u8]) -> Result<Document, 
     Ok(Document { labels })
 }
 
+// Whether a main source may have this name.
+fn is_main(name: &str) -> bool
+    ensures { IsTrue result ↔ name.now ≡ main_name }
+{
+    name == MAIN_NAME
+}
+
 // The id and the text of the only Label of a source.
 fn only_label(bytes: &[u8]) -> Option<(&str, &str)>
-    ensures id { IfSome result (λ r. length r.0.now ≤ 32) }
-    ensures id_valid { IfSome result (λ r. IsUtf8 r.0.now) }
-    ensures text { IfSome result (λ r. length r.1.now ≤ 200) }
-    ensures text_valid { IfSome result (λ r. IsUtf8 r.1.now) }
+    ensures found { IfSome result (λ r. IsLabelSource bytes.now r.0.now r.1.now) }
+    ensures missing { IfNone result (IsNoLabelSource bytes.now) }
 {
     let source = str::from_utf8(bytes).ok()?;
-    let elements = source.strip_prefix(OPENING)?;
-    let attributes = elements.strip_prefix("<s:Label id=\"")?;
-    let (id, after_id) = attributes.split_once('"')?;
-    let value = after_id.strip_prefix(" text=\"")?;
-    let (text, after_text) = value.split_once('"')?;
-    let end = after_text.strip_prefix("/>")?;
+    let elements = behind(source, OPENING)?;
+    let (id, after_id) = attribute(elements, "<s:Label id=\"")?;
+    let (text, after_text) = attribute(after_id, " text=\"")?;
+    let end = behind(after_text, "/>")?;
     if end == CLOSING && is_id(id) && is_text(text) {
         Some((id, text))
     } else {
@@ -145,27 +154,62 @@ fn only_label(bytes: &[u8]) -> Option<(&str, &str)>
     }
 }
 
+// The value of the attribute that a text begins with, and what stands behind it.
+fn attribute<'a>(text: &'a str, beginning: &str) -> Option<(&'a str, &'a str)>
+    ensures { MatchOption result (HasNoAttribute text.now beginning.now) (λ r. IsAttribute text.now beginning.now r.0.now r.1.now) }
+{
+    around_quote(behind(text, beginning)?)
+}
+
+// What stands behind a text's beginning.
+fn behind<'a>(text: &'a str, beginning: &str) -> Option<&'a str>
+    ensures { MatchOption result ((rest : List ℕ) → text.now ≢ beginning.now ++ rest) (λ rest. text.now ≡ beginning.now ++ rest.now) }
+{
+    text.strip_prefix(beginning)
+}
+
+// What stands before and behind the first quotation mark.
+fn around_quote(text: &str) -> Option<(&str, &str)>
+    ensures { MatchOption result (HasNoQuote text.now) (λ r. SplitsAtQuote text.now r.0.now r.1.now) }
+{
+    text.split_once('"')
+}
+
 // Whether a word may be an id.
 fn is_id(word: &str) -> bool
-    ensures { OnTrue result (length word.now ≤ 32) }
+    ensures { IsTrue result ↔ IsId word.now }
 {
     !word.is_empty()
         && word.len() <= MOST_LETTERS
-        && word.as_bytes().iter().all(|byte| byte.is_ascii_lowercase())
-        && !RESERVED.iter().any(|reserved| *reserved == word)
+        && word.as_bytes().iter().all(|byte| is_letter(*byte))
+        && !RESERVED.contains(&word)
+}
+
+// Whether a byte is a lower-case letter.
+fn is_letter(byte: u8) -> bool
+    ensures { IsTrue result ↔ IsLetter byte }
+{
+    b'a' <= byte && byte <= b'z'
 }
 
 // Whether a text may be an attribute's value.
 fn is_text(text: &str) -> bool
-    ensures { OnTrue result (length text.now ≤ 200) }
+    ensures { IsTrue result ↔ IsText text.now }
 {
     text.len() <= MOST_TEXT && text.as_bytes().iter().all(|byte| is_plain(*byte))
 }
 
 // Whether a byte of a text stands for itself.
-fn is_plain(byte: u8) -> bool {
-    match byte {
-        b'"' | b'\'' | b'<' | b'&' | b'{' | b'}' | b'@' | b'\\' => false,
-        _ => 0x20 <= byte && byte <= 0x7E,
-    }
+fn is_plain(byte: u8) -> bool
+    ensures { IsTrue result ↔ IsPlain byte }
+{
+    0x20 <= byte && byte <= 0x7E && !b"\"'<&{}@\\".contains(&byte)
 }
+
+/// Small documents mean what is expected of them, by computation alone.
+#[tactic(auto, using(crate::proofs::Examples::greeting_means, crate::proofs::Examples::empty_text_means, crate::proofs::Examples::one_turn_means))]
+pub fn small_documents_mean()
+    ensures greeting { GreetingMeans }
+    ensures empty_text { EmptyTextMeans }
+    ensures one_turn { OneTurnMeans }
+{}

@@ -4,7 +4,7 @@ ghost use Rattle.std.specs.Prelude.{◌≡◌, ◌<◌, ◌≤◌, ◌==◌, len
 ghost use Rattle.std.specs.List.{position};
 ghost use Rattle.std.specs.Str.{is_utf8};
 ghost use Rattle.flexc.specs.SwfReader.{Gives, body_length, main_class, name, nothing, number, parts_of, program, read_content, read_swf, read_tag, read_tags, rectangle_size, seen, with_abc, with_main, with_tag};
-ghost use Rattle.flexc.specs.SwfLaws.{SwfIsReadBack};
+ghost use Rattle.flexc.specs.SwfLaws.{SwfIsRead, SwfIsReadBack};
 
 use byteorder::{ByteOrder, LittleEndian};
 
@@ -243,6 +243,12 @@ fn text(bytes: &[u8]) -> Option<&str>
         Err(_) => None,
     }
 }
+
+/// The law that each SWF file is read: the bytes determine the name of the main class and the
+/// program, whatever the order of the tags and the form of their headers.
+pub fn reads_swf()
+    ensures { SwfIsRead }
+{}
 
 /// The law that the reading undoes the writing: what `write_swf` makes of a name and a program is
 /// read as both.

@@ -51,10 +51,37 @@ struct Left {
 impl Left {
     // Fails unless the command ended with this status and printed this text.
     fn shows(&self, status: u8, printed: &str) -> Result<(), &'static str> {
+        self.shows_bytes(status, printed.as_bytes())
+    }
+
+    fn shows_bytes(&self, status: u8, printed: &[u8]) -> Result<(), &'static str> {
         if self.status != status {
             return Err("another status");
         }
-        if self.sink.taken().as_slice() != printed.as_bytes() {
+        if self.sink.taken().as_slice() != printed {
+            return Err("another text");
+        }
+        Ok(())
+    }
+
+    // Fails unless the command ended with this status, printed this text and made no file.
+    fn refuses(&self, status: u8, printed: &str) -> Result<(), &'static str> {
+        if self.files.file("hello.swf").is_some() {
+            return Err("a file was made");
+        }
+        self.shows(status, printed)
+    }
+
+    // Fails unless the command ended with status 8 after it printed so many bytes of this text.
+    fn is_cut(&self, taken: u64, whole: &str) -> Result<(), &'static str> {
+        let printed = self.sink.taken().as_slice();
+        if self.status != 8 {
+            return Err("another status");
+        }
+        if printed.len() as u64 != taken {
+            return Err("another length");
+        }
+        if !whole.as_bytes().starts_with(printed) {
             return Err("another text");
         }
         Ok(())
@@ -75,6 +102,7 @@ fn perform(
     script: &str,
 ) -> Result<Left, NoMemory> {
     let source = source(alloc, elements)?;
+    let script = Bytes::from_vec(Vec::from_slice(alloc, script.as_bytes())?);
     let files = files(alloc, name, source, script)?;
     perform_on(alloc, words, files, FAIR)
 }
@@ -88,12 +116,10 @@ fn source(alloc: Global, elements: &str) -> Result<Bytes, NoMemory> {
     Ok(source)
 }
 
-fn files(alloc: Global, name: &str, source: Bytes, script: &str) -> Result<FileList, NoMemory> {
-    let mut bytes = Bytes::new(alloc);
-    bytes.extend(script.as_bytes())?;
+fn files(alloc: Global, name: &str, source: Bytes, script: Bytes) -> Result<FileList, NoMemory> {
     let mut list = Sequence::new(alloc);
     list.push((Text::make(alloc, name)?, source))?;
-    list.push((Text::make(alloc, "empty.txt")?, bytes))?;
+    list.push((Text::make(alloc, "empty.txt")?, script))?;
     Ok(list)
 }
 
@@ -141,6 +167,16 @@ fn owned(alloc: Global, words: &[&str]) -> Result<Vec<String>, NoMemory> {
 
 const NOT_YET: &str = "Main.mxml:1:1: NotYetBuilt\n";
 
+const SCRIPT_NOT_YET: &str = "script:1: not yet built\n";
+
+const SOURCE_UNREAD: &str = "cannot read Main.mxml\n";
+
+const SCRIPT_UNREAD: &str = "cannot read empty.txt\n";
+
+const UNWRITTEN: &str = "cannot write hello.swf\n";
+
+const BAD_USAGE: &str = "flexc: bad usage\n";
+
 #[test]
 fn a_label_is_made(rt: HostRuntime) -> Result<(), Fail> {
     let left = perform(rt.alloc(), WORDS, "Main.mxml", LABEL, "")?;
@@ -167,7 +203,7 @@ fn other_sources_are_not_yet_built(rt: HostRuntime) -> Result<(), Fail> {
     ];
     for elements in cases {
         let left = perform(rt.alloc(), WORDS, "Main.mxml", elements, "#")?;
-        left.shows(3, NOT_YET)?;
+        left.refuses(3, NOT_YET)?;
     }
     Ok(())
 }
@@ -175,7 +211,7 @@ fn other_sources_are_not_yet_built(rt: HostRuntime) -> Result<(), Fail> {
 #[test]
 fn a_script_with_lines_is_not_yet_read(rt: HostRuntime) -> Result<(), Fail> {
     let left = perform(rt.alloc(), WORDS, "Main.mxml", LABEL, "#")?;
-    left.shows(4, "script:1: not yet built\n")?;
+    left.refuses(4, SCRIPT_NOT_YET)?;
     Ok(())
 }
 
@@ -212,7 +248,7 @@ fn words_of_no_command(rt: HostRuntime) -> Result<(), Fail> {
     let cases: [&[&str]; 3] = [&[], &["fly"], SEVEN];
     for words in cases {
         let left = perform(rt.alloc(), words, "Main.mxml", LABEL, "")?;
-        left.shows(2, "flexc: bad usage\n")?;
+        left.refuses(2, BAD_USAGE)?;
     }
     Ok(())
 }
@@ -220,18 +256,16 @@ fn words_of_no_command(rt: HostRuntime) -> Result<(), Fail> {
 #[test]
 fn files_that_do_not_stand(rt: HostRuntime) -> Result<(), Fail> {
     let left = perform(rt.alloc(), WORDS, "main.mxml", LABEL, "")?;
-    left.shows(7, "cannot read Main.mxml\n")?;
+    left.refuses(7, SOURCE_UNREAD)?;
     let left = perform(rt.alloc(), NO_SCRIPT, "Main.mxml", LABEL, "")?;
-    left.shows(7, "cannot read none.txt\n")?;
-    assert!(rt; left.files.file("hello.swf").is_none());
+    left.refuses(7, "cannot read none.txt\n")?;
     Ok(())
 }
 
 #[test]
 fn main_has_its_name(rt: HostRuntime) -> Result<(), Fail> {
     let left = perform(rt.alloc(), OTHER_MAIN, "Other.mxml", LABEL, "")?;
-    left.shows(3, "Other.mxml:1:1: NotYetBuilt\n")?;
-    assert!(rt; left.files.file("hello.swf").is_none());
+    left.refuses(3, "Other.mxml:1:1: NotYetBuilt\n")?;
     Ok(())
 }
 
@@ -240,53 +274,121 @@ fn perform_lengths(alloc: Global, id: usize, text: usize) -> Result<Left, NoMemo
     let mut source = Bytes::new(alloc);
     source.extend(OPENING.as_bytes())?;
     source.extend(b"<s:Label id=\"")?;
-    for _ in 0..id {
-        source.push(b'a')?;
-    }
+    put_equal(&mut source, b'a', id)?;
     source.extend(b"\" text=\"")?;
-    for _ in 0..text {
-        source.push(b'0')?;
-    }
+    put_equal(&mut source, b'0', text)?;
     source.extend(b"\"/>")?;
     source.extend(CLOSING.as_bytes())?;
-    let list = files(alloc, "Main.mxml", source, "")?;
+    let list = files(alloc, "Main.mxml", source, Bytes::new(alloc))?;
     perform_on(alloc, WORDS, list, FAIR)
 }
 
-#[test]
-fn lengths_of_ids_and_texts(rt: HostRuntime) -> Result<(), Fail> {
-    let longest = perform_lengths(rt.alloc(), 32, 200)?;
-    assert_eq!(rt; longest.status, 0);
-    perform_lengths(rt.alloc(), 33, 200)?.shows(3, NOT_YET)?;
-    perform_lengths(rt.alloc(), 32, 201)?.shows(3, NOT_YET)?;
+fn put_equal(bytes: &mut Bytes, byte: u8, count: usize) -> Result<(), NoMemory> {
+    for _ in 0..count {
+        bytes.push(byte)?;
+    }
     Ok(())
 }
 
-// The command over a source of this many spaces.
-fn perform_spaces(alloc: Global, length: usize) -> Result<Left, NoMemory> {
-    let source = Bytes::from_vec(vec![in alloc; b' '; length]?);
-    let list = files(alloc, "Main.mxml", source, "")?;
-    perform_on(alloc, WORDS, list, FAIR)
+// The trace of a Label whose id and text have these lengths.
+fn trace_of_lengths(alloc: Global, id: usize, text: usize) -> Result<Bytes, NoMemory> {
+    let mut trace = Bytes::new(alloc);
+    trace.extend(b"new 1 Main\nnew 2 Label\nset 1.")?;
+    put_equal(&mut trace, b'a', id)?;
+    trace.extend(b" #2\nset 2.text \"")?;
+    put_equal(&mut trace, b'0', text)?;
+    trace.extend(b"\"\nadd 1 2 0\nend\n")?;
+    Ok(trace)
 }
 
 #[test]
+fn the_longest_id_and_text(rt: HostRuntime) -> Result<(), Fail> {
+    let trace = trace_of_lengths(rt.alloc(), 32, 200)?;
+    perform_lengths(rt.alloc(), 32, 200)?.shows_bytes(0, trace.as_slice())?;
+    Ok(())
+}
+
+#[test]
+fn ids_and_texts_that_are_too_long(rt: HostRuntime) -> Result<(), Fail> {
+    perform_lengths(rt.alloc(), 33, 200)?.refuses(3, NOT_YET)?;
+    perform_lengths(rt.alloc(), 32, 201)?.refuses(3, NOT_YET)?;
+    Ok(())
+}
+
+// This many spaces.
+fn spaces(alloc: Global, length: usize) -> Result<Bytes, NoMemory> {
+    Ok(Bytes::from_vec(vec![in alloc; b' '; length]?))
+}
+
+// The command over a source of this many spaces.
+fn perform_spaces(
+    alloc: Global,
+    words: &[&str],
+    length: usize,
+    fails: u64,
+) -> Result<Left, NoMemory> {
+    let list = files(
+        alloc,
+        "Main.mxml",
+        spaces(alloc, length)?,
+        Bytes::new(alloc),
+    )?;
+    let outside = Outside {
+        most: 4096,
+        fails,
+        sink_fails: 0,
+    };
+    perform_on(alloc, words, list, outside)
+}
+
+// The command over a source with this name and the label, and a script of this many spaces.
+fn perform_script(alloc: Global, name: &str, length: usize) -> Result<Left, NoMemory> {
+    let source = source(alloc, LABEL)?;
+    let list = files(alloc, name, source, spaces(alloc, length)?)?;
+    perform_on(alloc, WORDS, list, FAIR)
+}
+
+const SOURCE_TOO_LONG: &str = "Main.mxml: too long\n";
+
+#[test]
 fn sizes_of_sources(rt: HostRuntime) -> Result<(), Fail> {
-    let left = perform_spaces(rt.alloc(), 1_048_576)?;
-    left.shows(3, NOT_YET)?;
-    let left = perform_spaces(rt.alloc(), 1_048_577)?;
-    left.shows(10, "Main.mxml: too long\n")?;
+    perform_spaces(rt.alloc(), WORDS, 1_048_576, 0)?.refuses(3, NOT_YET)?;
+    perform_spaces(rt.alloc(), WORDS, 1_048_577, 0)?.refuses(10, SOURCE_TOO_LONG)?;
+    Ok(())
+}
+
+#[test]
+fn sizes_of_scripts(rt: HostRuntime) -> Result<(), Fail> {
+    perform_script(rt.alloc(), "Main.mxml", 1_048_576)?.refuses(4, SCRIPT_NOT_YET)?;
+    perform_script(rt.alloc(), "Main.mxml", 1_048_577)?.refuses(10, "empty.txt: too long\n")?;
+    Ok(())
+}
+
+#[test]
+fn the_first_reading_decides(rt: HostRuntime) -> Result<(), Fail> {
+    perform_spaces(rt.alloc(), NO_SCRIPT, 1_048_577, 0)?.refuses(10, SOURCE_TOO_LONG)?;
+    perform_script(rt.alloc(), "main.mxml", 1_048_577)?.refuses(7, SOURCE_UNREAD)?;
+    Ok(())
+}
+
+// The source is begun by one call, and 256 calls give 4096 bytes each; the call after them gives
+// the byte that is too many, and none is made behind it.
+#[test]
+fn a_long_source_is_read_no_further(rt: HostRuntime) -> Result<(), Fail> {
+    perform_spaces(rt.alloc(), WORDS, 1_048_577, 258)?.refuses(7, SOURCE_UNREAD)?;
+    perform_spaces(rt.alloc(), WORDS, 1_048_577, 259)?.refuses(10, SOURCE_TOO_LONG)?;
     Ok(())
 }
 
 // The command over a source with the label, where calls of the files or the sink fail.
 fn perform_failing(alloc: Global, outside: Outside) -> Result<Left, NoMemory> {
     let source = source(alloc, LABEL)?;
-    let list = files(alloc, "Main.mxml", source, "")?;
+    let list = files(alloc, "Main.mxml", source, Bytes::new(alloc))?;
     perform_on(alloc, WORDS, list, outside)
 }
 
-// The source of the first run has 149 bytes: where each call moves 16 bytes, it is begun and read
-// by 11 calls, the script by 2, and the file is created by one.
+// The source with the label has 150 bytes: where each call moves 16 bytes, it is begun by one call
+// and read by 11, the script is begun and read by 2, and the file is created by one.
 const THIRD_APPEND: u64 = 1 + 11 + 2 + 1 + 3;
 
 #[test]
@@ -298,24 +400,103 @@ fn a_write_that_fails(rt: HostRuntime) -> Result<(), Fail> {
         sink_fails: 0,
     };
     let part = perform_failing(rt.alloc(), outside)?;
-    part.shows(8, "cannot write hello.swf\n")?;
+    part.shows(8, UNWRITTEN)?;
     let written = part.written()?;
     assert_eq!(rt; written.len(), 32);
     assert!(rt; whole.written()?.starts_with(written));
     Ok(())
 }
 
-#[test]
-fn a_print_that_fails(rt: HostRuntime) -> Result<(), Fail> {
-    let whole = perform_failing(rt.alloc(), FAIR)?;
+// The command over a source with the label, where each call moves one byte.
+fn perform_slowly(alloc: Global, fails: u64, sink_fails: u64) -> Result<Left, NoMemory> {
     let outside = Outside {
         most: 1,
-        fails: 0,
-        sink_fails: 1,
+        fails,
+        sink_fails,
     };
-    let unprinted = perform_failing(rt.alloc(), outside)?;
-    unprinted.shows(8, "")?;
-    assert!(rt; unprinted.written()? == whole.written()?);
+    perform_failing(alloc, outside)
+}
+
+// Where each call moves one byte, the source of 150 bytes is begun by one call and read by 151, the
+// script is begun and read by 2, and the file is created by one.
+const FIRST_OF_SCRIPT: u64 = 153;
+
+const CREATE: u64 = 155;
+
+const FIRST_APPEND: u64 = 156;
+
+#[test]
+fn one_byte_at_a_time(rt: HostRuntime) -> Result<(), Fail> {
+    let whole = perform_failing(rt.alloc(), FAIR)?;
+    let slow = perform_slowly(rt.alloc(), 0, 0)?;
+    slow.shows(0, TRACE)?;
+    assert!(rt; slow.written()? == whole.written()?);
+    Ok(())
+}
+
+#[test]
+fn each_read_of_the_source_fails(rt: HostRuntime) -> Result<(), Fail> {
+    for fails in 1..FIRST_OF_SCRIPT {
+        perform_slowly(rt.alloc(), fails, 0)?.refuses(7, SOURCE_UNREAD)?;
+    }
+    Ok(())
+}
+
+#[test]
+fn each_read_of_the_script_fails(rt: HostRuntime) -> Result<(), Fail> {
+    for fails in FIRST_OF_SCRIPT..CREATE {
+        perform_slowly(rt.alloc(), fails, 0)?.refuses(7, SCRIPT_UNREAD)?;
+    }
+    Ok(())
+}
+
+#[test]
+fn the_making_of_the_file_fails(rt: HostRuntime) -> Result<(), Fail> {
+    perform_slowly(rt.alloc(), CREATE, 0)?.refuses(8, UNWRITTEN)?;
+    Ok(())
+}
+
+#[test]
+fn each_write_of_the_file_fails(rt: HostRuntime) -> Result<(), Fail> {
+    let left = perform_failing(rt.alloc(), FAIR)?;
+    let whole = left.written()?;
+    let end = FIRST_APPEND.saturating_add(whole.len() as u64);
+    for fails in FIRST_APPEND..end {
+        let part = perform_slowly(rt.alloc(), fails, 0)?;
+        part.shows(8, UNWRITTEN)?;
+        let written = part.written()?;
+        assert_eq!(rt; written.len() as u64, fails - FIRST_APPEND);
+        assert!(rt; whole.starts_with(written));
+    }
+    perform_slowly(rt.alloc(), end, 0)?.shows(0, TRACE)?;
+    Ok(())
+}
+
+// The trace has 71 bytes.
+#[test]
+fn each_write_of_the_trace_fails(rt: HostRuntime) -> Result<(), Fail> {
+    let whole = perform_failing(rt.alloc(), FAIR)?;
+    for taken in 0..71 {
+        let part = perform_slowly(rt.alloc(), 0, taken + 1)?;
+        part.is_cut(taken, TRACE)?;
+        assert!(rt; part.written()? == whole.written()?);
+    }
+    perform_slowly(rt.alloc(), 0, 72)?.shows(0, TRACE)?;
+    Ok(())
+}
+
+// The line that says what failed is cut off too: here it has 17 bytes.
+#[test]
+fn each_write_of_a_line_fails(rt: HostRuntime) -> Result<(), Fail> {
+    for taken in 0..17 {
+        let outside = Outside {
+            most: 1,
+            fails: 0,
+            sink_fails: taken + 1,
+        };
+        let part = perform_on(rt.alloc(), &["fly"], Sequence::new(rt.alloc()), outside)?;
+        part.is_cut(taken, BAD_USAGE)?;
+    }
     Ok(())
 }
 

@@ -1,5 +1,8 @@
 // The words of the command line.
 
+ghost use Rattle.std.specs.Prelude.{MatchOption};
+ghost use Rattle.flexc.specs.Command.{AreWords, IsNoCommand, texts};
+
 /// The words of `run`.
 #[derive(Clone, Copy)]
 pub struct Run<'a> {
@@ -12,7 +15,9 @@ pub struct Run<'a> {
 }
 
 /// Reads the words `run --script S --out O MAIN`; no other list of words is a command.
-pub fn read_words(words: &[String]) -> Option<Run<'_>> {
+pub fn read_words(words: &[String]) -> Option<Run<'_>>
+    ensures { MatchOption result (IsNoCommand (texts words.now)) (λ run. AreWords (texts words.now) run.script.now run.out.now run.main.now) }
+{
     let [run, script_flag, script, out_flag, out, main] = words else {
         return None;
     };

@@ -2,6 +2,7 @@
 
 ghost use Rattle.std.specs.Prelude.{◌≡◌, ◌+◌, ◌≤◌, ◌<◌, ◌^◌, ◌++◌, ◌∷◌, [], length, All, ◌≢◌, IfOk, OnOk};
 ghost use Rattle.byteorder.specs.Endian.{little_bytes};
+ghost use Rattle.swf_tags.specs.File.{IsSwf, written_tags};
 ghost use Rattle.swf_tags.specs.Spelling.{swf_bytes, content, tag, header, long_header, zero_ended, abc_body, symbol_body, do_abc_tag, frame_header, tags};
 
 use byteorder::{ByteOrder, LittleEndian};
@@ -34,7 +35,8 @@ const FRAME_HEADER: [u8; 13] = [
 pub fn write_swf(alloc: Global, main: &Text, abc: &[u8]) -> Result<Bytes, NoMemory>
     requires no_zero { All (λ byte. byte ≢ 0) main.now }
     requires fits { length main.now + length abc.now ≤ 2000000000 }
-    ensures { IfOk result (λ bytes. bytes ≡ swf_bytes main.now abc.now) }
+    ensures spelled { IfOk result (λ bytes. bytes ≡ swf_bytes main.now abc.now) }
+    ensures related { IfOk result (λ bytes. IsSwf 10 (written_tags main.now abc.now) abc.now main.now bytes) }
 {
     let mut bytes = Bytes::new(alloc);
     bytes.extend(b"FWS")?;

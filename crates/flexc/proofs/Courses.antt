@@ -1,0 +1,388 @@
+-- From the work of a command and the line that it says to what the command promises.
+use Rattle.std.proofs.Common.{◌≡◌, ◌≢◌, ℕ, ◌<◌, ◌≤◌, List, [], ◌++◌, length, Option, None, Some, Ok, Err, Result, inl, inr, refl, sym, ap, ◌∙◌, subst, arith}
+use Rattle.std.specs.Prelude.{IsTrue, codes, slice_get, ◌⊎◌}
+use Rattle.std.specs.Option.{IsSomeAnd}
+use Rattle.std.proofs.lemmas.List.{append-nil}
+use Rattle.flex_base.specs.declared.outcome.Outcome.{Outcome}
+use Rattle.flex_base.specs.declared.outcome.Outcome.TheVariants.{Ended}
+use Rattle.flex_edge.specs.Outside.{Rose, FilesState, SinkState}
+use Rattle.flex_edge.specs.Calls.{SameCounts, Changes, SinkChanges}
+use Rattle.flexc.specs.Command.{turns, status, status_after, AreWords, HasRead, FailsToRead, At_source, At_script, HasBuilt, HasWrittenFile, Says, HasNoMemory, Early, Writing, Playing, Course, No_command, Cannot_read, Too_long, Not_built, Bad_script, Cannot_write, Cannot_print, No_memory, Has_ended, HoldsFile, HasPrintedTrace, IsRunnable, NoFileFault, NoSinkFault, RunsWhole, RunsInPart, HoldsBoth, Refuses, For_words, For_long_source, For_long_script, For_source, For_script, HasSaid}
+use Rattle.flexc.specs.Meaning.{source_trace}
+use Rattle.flexc.specs.Playing.{HasTrace}
+use Rattle.flexc.specs.PlaysAs.{PlaysAs}
+use Rattle.flexc.specs.Printed.{HasPlayed, Plays}
+use Rattle.flexc.specs.Source.{HasDocument, IsNotBuilt}
+use Rattle.flexc.specs.Trace.{Story, text, with_end}
+use Rattle.flexc.specs.Whole.{HasTaken, Prints}
+use Rattle.flexc.specs.Work.{HasFailed, HasRun, Reports}
+use Rattle.flexc.specs.declared.command.Failure.{Failure}
+use Rattle.flexc.specs.declared.command.Failure.TheVariants as failure
+use Rattle.flexc.specs.declared.command.Status.{Status}
+use Rattle.flexc.specs.declared.input.ReadRefusal.TheVariants as read
+use Rattle.flexc.specs.declared.output.WriteRefusal.{WriteRefusal}
+use Rattle.flexc.specs.declared.output.WriteRefusal.TheVariants as write
+use Rattle.flexc.specs.declared.source.Document.{Document}
+use Rattle.flexc.proofs.EndsWell.{ends_well}
+use Rattle.flexc.proofs.Sources.{one_document, small_document, source_short}
+
+-- what failed, and what was said of it
+pub failed_course : (words : List (List ℕ)) (f : Failure) (old new : FilesState) (before mid after : SinkState) (answer : Status)
+    → HasFailed words f old new before mid → Reports f mid answer after → Course words old new before after answer
+failed_course words failure.BadUsage old new before mid after answer h r = No_command h.0 h.1 (subst (λ s. Says 2 (codes "flexc: bad usage") s after answer) h.2 r)
+failed_course words (failure.CannotRead name) old new before mid after answer h r =
+    let n = h.0 in
+    Cannot_read n.script n.out n.main name.now n.are n.none (subst (λ s. Says 7 (codes "cannot read " ++ name.now) s after answer) h.1 r)
+failed_course words (failure.TooLong name) old new before mid after answer h r =
+    let n = h.0 in
+    Too_long n.script n.out n.main name.now n.are n.none (subst (λ s. Says 10 (name.now ++ codes ": too long") s after answer) h.1 r)
+failed_course words (failure.NotYetBuilt name) old new before mid after answer h r =
+    let n = h.0 in
+    let q = n.none.1 in
+    Not_built n.script n.out n.main q.source q.commands n.are q.has_read q.refused
+    (subst (λ m. Says 3 (m ++ codes ":1:1: NotYetBuilt") before after answer) n.none.0 (subst (λ s. Says 3 (name.now ++ codes ":1:1: NotYetBuilt") s after answer) h.1 r))
+failed_course words failure.ScriptNotYetBuilt old new before mid after answer h r =
+    let n = h.0 in
+    let q = n.none in
+    Bad_script n.script n.out n.main q.source q.commands q.document n.are q.has_read q.has q.some (subst (λ s. Says 4 (codes "script:1: not yet built") s after answer) h.1 r)
+failed_course words (failure.CannotWrite name) old new before mid after answer h r =
+    let n = h.0 in
+    Cannot_write n.script name.now n.main n.document n.are n.written (subst (λ s. Says 8 (codes "cannot write " ++ name.now) s after answer) h.1 r)
+failed_course words failure.CannotPrint old new before mid after answer h r =
+    Cannot_print h.script h.out h.main h.document h.are h.written (subst (λ s. Plays h.written.bytes turns before (Err write.Failed) s) (sym r.0) h.plays) r.1
+failed_course words failure.NoMemory old new before mid after answer h r = No_memory (subst (λ s. HasNoMemory words old new before s) (sym r.0) h) r.1
+
+pub ended_course : (words : List (List ℕ)) (old new : FilesState) (before after : SinkState) (answer : Status) → HasRun words Ended old new before after → answer ≡ status 0
+    → Course words old new before after answer
+ended_course words old new before after answer h is = Has_ended h.script h.out h.main h.document h.are h.written h.plays is
+
+some_is : {A : Type 0} (a b : A) → Some a ≡ Some b → a ≡ b
+some_is a b e = cc
+
+-- the words of one command name the same files
+same_words : (words : List (List ℕ)) (s o m t p n : List ℕ) → AreWords words s o m → AreWords words t p n → (s ≡ t) × (o ≡ p) × (m ≡ n)
+same_words words s o m t p n a b =
+    let e = sym a ∙ b in
+    (some_is s t (ap (λ l. slice_get l 2) e), some_is o p (ap (λ l. slice_get l 4) e), some_is m n (ap (λ l. slice_get l 5) e))
+
+-- what is told of two files that were read
+source_there : (script main source commands : List ℕ) (old new : FilesState) → HasRead script main source commands old new → IsTrue old.tells → old.bytes_of main ≡ Some source
+source_there script main source commands old new r t = (r.first.1.told t).there
+
+script_there : (script main source commands : List ℕ) (old new : FilesState) → HasRead script main source commands old new → IsTrue old.tells → old.bytes_of script ≡ Some commands
+script_there script main source commands old new r t =
+    sym ((r.first.1.told t).tried.only.bytes script) ∙ (r.second.1.told (r.first.1.tells ∙ t)).there
+
+-- the same counts and bytes after both readings
+counts_read : (script main source commands : List ℕ) (old new : FilesState) → HasRead script main source commands old new → SameCounts old new
+counts_read script main source commands old new r =
+    record { reads = r.second.1.counts.reads ∙ r.first.1.counts.reads; writes = r.second.1.counts.writes ∙ r.first.1.counts.writes }
+
+module _ (words : List (List ℕ)) (old new : FilesState) where
+  -- a document that was built of files that tell is the one that can be run
+  same_document : (document : Document) (r : IsRunnable words old document) (script out main : List ℕ) → AreWords words script out main → (mid : FilesState) (built : Document)
+      → HasBuilt script main built old mid → built ≡ document
+  same_document document r script out main are mid built h =
+      let same = same_words words script out main r.script r.out r.main are r.are in
+      let there = source_there script main h.source [] old mid h.read r.tells in
+      let source : h.source ≡ r.source = some_is h.source r.source (sym there ∙ ap old.bytes_of same.2 ∙ r.source_there) in
+      one_document r.main r.source built document (subst (λ m. HasDocument m r.source built) same.2 (subst (λ s. HasDocument main s built) source h.has)) r.has
+
+  -- no reading failed
+  read_fails : (script out main name : List ℕ) → AreWords words script out main → FailsToRead script main name read.Failed old new → NoFileFault old new → ⊥
+  read_fails script out main name are (At_source is fails) none = none.reads fails.counts.reads
+  read_fails script out main name are (At_script source mid first is fails) none =
+      none.reads (subst (λ n. Rose n new.read_faults) first.1.counts.reads fails.counts.reads)
+
+  -- no file is too long
+  read_long : (document : Document) (r : IsRunnable words old document) (script out main name : List ℕ) → AreWords words script out main
+      → FailsToRead script main name read.TooLong old new → ⊥
+  read_long document r script out main name are (At_source is fails) =
+      let same = same_words words script out main r.script r.out r.main are r.are in
+      let there : old.bytes_of main ≡ Some r.source = ap old.bytes_of same.2 ∙ r.source_there in
+      let long : 1048576 < length r.source = subst (λ o. IsSomeAnd o (λ bytes. 1048576 < length bytes)) there (fails.told r.tells).long in
+      let short = source_short r.main r.source document r.has in
+      omega (arith, long, short)
+  read_long document r script out main name are (At_script source mid first is fails) =
+      let same = same_words words script out main r.script r.out r.main are r.are in
+      let there : mid.bytes_of script ≡ Some [] = (first.1.told r.tells).tried.only.bytes script ∙ ap old.bytes_of same.0 ∙ r.script_there in
+      let long : 1048576 < length {A = ℕ} [] = subst (λ o. IsSomeAnd o (λ bytes. 1048576 < length bytes)) there (fails.told (first.1.tells ∙ r.tells)).long in
+      omega (arith, long)
+
+  -- the source is built
+  not_refused : (document : Document) (r : IsRunnable words old document) (script out main source commands : List ℕ) → AreWords words script out main
+      → HasRead script main source commands old new → IsNotBuilt main source → ⊥
+  not_refused document r script out main source commands are h refused =
+      let same = same_words words script out main r.script r.out r.main are r.are in
+      let there = source_there script main source commands old new h r.tells in
+      let is : source ≡ r.source = some_is source r.source (sym there ∙ ap old.bytes_of same.2 ∙ r.source_there) in
+      refused document (subst (λ m. HasDocument m source document) (sym same.2) (subst (λ s. HasDocument r.main s document) (sym is) r.has))
+
+  -- the script is empty
+  no_commands : (document : Document) (r : IsRunnable words old document) (script out main source commands : List ℕ) → AreWords words script out main
+      → HasRead script main source commands old new → commands ≢ [] → ⊥
+  no_commands document r script out main source commands are h some =
+      let same = same_words words script out main r.script r.out r.main are r.are in
+      some (some_is commands [] (sym (script_there script main source commands old new h r.tells) ∙ ap old.bytes_of same.0 ∙ r.script_there))
+
+  -- the file was written
+  write_fails : (script out main : List ℕ) (document : Document) → HasWrittenFile script out main document (Err write.Failed) old new → NoFileFault old new → ⊥
+  write_fails script out main document h none =
+      none.writes (subst (λ n. Rose n new.write_faults) (counts_read script main h.built.source [] old h.mid h.built.read).writes h.written.counts.writes)
+
+  module _ (before after : SinkState) where
+    pub runs_whole : (answer : Status) → Course words old new before after answer → RunsWhole words old new before after answer
+    runs_whole answer (No_command missing files says) document r none quiet = absurd (missing r.script r.out r.main r.are)
+    runs_whole answer (Cannot_read script out main name are fails says) document r none quiet = absurd (read_fails script out main name are fails none)
+    runs_whole answer (Too_long script out main name are fails says) document r none quiet = absurd (read_long document r script out main name are fails)
+    runs_whole answer (Not_built script out main source commands are has_read refused says) document r none quiet =
+        absurd (not_refused document r script out main source commands are has_read refused)
+    runs_whole answer (Bad_script script out main source commands built are has_read has some says) document r none quiet =
+        absurd (no_commands document r script out main source commands are has_read some)
+    runs_whole answer (Cannot_write script out main built are written says) document r none quiet = absurd (write_fails script out main built written none)
+    runs_whole answer (Cannot_print script out main built are written plays is) document r none quiet = absurd (quiet plays.faults)
+    runs_whole answer (No_memory without is) document r none quiet = inr is
+    runs_whole answer (Has_ended script out main built are written plays is) document r none quiet = inl is
+
+    -- nothing was printed
+    nothing_taken : (bytes : List ℕ) → after ≡ before → HasTaken bytes before after
+    nothing_taken bytes same = record { part = []; left = bytes; whole = refl; taken = ap (λ s. s.taken) same ∙ sym (append-nil before.taken) }
+
+    -- what was printed of the file's trace was printed of the source's
+    part_taken : (document : Document) (r : IsRunnable words old document) (script out main : List ℕ) (built : Document) → AreWords words script out main
+        → (written : HasWrittenFile script out main built (Ok tt) old new) → ((story : Story) → HasTrace written.bytes [] turns story → HasTaken (text story) before after)
+        → HasTaken (text (source_trace document [] turns)) before after
+    part_taken document r script out main built are written part =
+        subst (λ d. HasTaken (text (source_trace d [] turns)) before after) (same_document document r script out main are written.mid built written.built)
+        (part (source_trace built [] turns) (written.plays.same [] turns))
+
+    memory_part : (document : Document) → IsRunnable words old document → HasNoMemory words old new before after → IsTrue before.tells → HasTaken (text (source_trace document [] turns)) before after
+    memory_part document r (Early script out main are files sink) t = nothing_taken (text (source_trace document [] turns)) sink
+    memory_part document r (Writing script out main built are written sink) t = nothing_taken (text (source_trace document [] turns)) sink
+    memory_part document r (Playing script out main built are written plays) t = part_taken document r script out main built are written (plays.told t)
+
+    -- the text of the file's trace, all of which was printed, is that of the source's
+    all_printed : (bytes : List ℕ) (built : Document) → PlaysAs bytes built → HasPlayed bytes turns Ended before after
+        → SinkChanges before after (after.write_faults ≡ before.write_faults) (after.taken ≡ before.taken ++ text (source_trace built [] turns))
+    all_printed bytes built plays played =
+        let same : played.story ≡ source_trace built [] turns = plays.only [] turns played.story (source_trace built [] turns) played.trace (plays.same [] turns) in
+        subst (λ (s : Story). SinkChanges before after (after.write_faults ≡ before.write_faults) (after.taken ≡ before.taken ++ text s)) same played.printed
+
+    pub runs_in_part : (answer : Status) → Course words old new before after answer → RunsInPart words old new before after
+    runs_in_part answer (No_command missing files says) document r none t = absurd (missing r.script r.out r.main r.are)
+    runs_in_part answer (Cannot_read script out main name are fails says) document r none t = absurd (read_fails script out main name are fails none)
+    runs_in_part answer (Too_long script out main name are fails says) document r none t = absurd (read_long document r script out main name are fails)
+    runs_in_part answer (Not_built script out main source commands are has_read refused says) document r none t =
+        absurd (not_refused document r script out main source commands are has_read refused)
+    runs_in_part answer (Bad_script script out main source commands built are has_read has some says) document r none t =
+        absurd (no_commands document r script out main source commands are has_read some)
+    runs_in_part answer (Cannot_write script out main built are written says) document r none t = absurd (write_fails script out main built written none)
+    runs_in_part answer (Cannot_print script out main built are written plays is) document r none t = part_taken document r script out main built are written (plays.told t)
+    runs_in_part answer (No_memory without is) document r none t = memory_part document r without t
+    runs_in_part answer (Has_ended script out main built are written plays is) document r none t =
+        let all = (all_printed written.bytes built written.plays plays).told t in
+        subst (λ d. HasTaken (text (source_trace d [] turns)) before after) (same_document document r script out main are written.mid built written.built)
+        (record { part = text (source_trace built [] turns); left = []; whole = sym (append-nil (text (source_trace built [] turns))); taken = all })
+
+    -- the files after all was written
+    all_written : (script out main : List ℕ) (built : Document) (h : HasWrittenFile script out main built (Ok tt) old new)
+        → Changes old new (SameCounts old new) (HoldsFile script out main h.built.source h.bytes old new)
+    all_written script out main built h =
+        let reading = h.built.read in
+        let counts = counts_read script main h.built.source [] old h.mid reading in
+        let tells : h.mid.tells ≡ old.tells = reading.second.1.tells ∙ reading.first.1.tells in
+        record {
+          tells = h.written.tells ∙ tells;
+          counts = record { reads = h.written.counts.reads ∙ counts.reads; writes = h.written.counts.writes ∙ counts.writes };
+          told = λ t. record {
+            source_there = source_there script main h.built.source [] old h.mid reading t;
+            script_there = script_there script main h.built.source [] old h.mid reading t;
+            written = (h.written.told (tells ∙ t)).there;
+            others = λ name other.
+                (h.written.told (tells ∙ t)).others name other ∙ (reading.second.1.told (reading.first.1.tells ∙ t)).tried.only.bytes name ∙ (reading.first.1.told t).tried.only.bytes name;
+          };
+        }
+
+    not_zero : (n : ℕ) (result : Result (Unit {0}) WriteRefusal) → 0 < n → status_after n result ≡ status 0 → ⊥
+    not_zero n (Ok done) some e = let same : n ≡ 0 = ap (λ s. s.0) e in omega (arith, same)
+    not_zero n (Err write.Failed) some e = let same : 8 ≡ 0 = ap (λ s. s.0) e in omega (arith, same)
+    not_zero n (Err write.NoMemory) some e = let same : 9 ≡ 0 = ap (λ s. s.0) e in omega (arith, same)
+
+    said : (n : ℕ) (line : List ℕ) (answer : Status) → 0 < n → Says n line before after answer → answer ≡ status 0 → ⊥
+    said n line answer some s e = not_zero n s.result some (sym s.is ∙ e)
+
+    numbered : (n : ℕ) (answer : Status) → 0 < n → answer ≡ status n → answer ≡ status 0 → ⊥
+    numbered n answer some is e = let same : n ≡ 0 = ap (λ s. s.0) (sym is ∙ e) in omega (arith, same)
+
+    pub has_printed : (answer : Status) → Course words old new before after answer → answer ≡ status 0 → HasPrintedTrace words old new before after
+    has_printed answer (No_command missing files says) e = absurd (said 2 _ answer (omega arith) says e)
+    has_printed answer (Cannot_read script out main name are fails says) e = absurd (said 7 _ answer (omega arith) says e)
+    has_printed answer (Too_long script out main name are fails says) e = absurd (said 10 _ answer (omega arith) says e)
+    has_printed answer (Not_built script out main source commands are has_read refused says) e = absurd (said 3 _ answer (omega arith) says e)
+    has_printed answer (Bad_script script out main source commands built are has_read has some says) e = absurd (said 4 _ answer (omega arith) says e)
+    has_printed answer (Cannot_write script out main built are written says) e = absurd (said 8 _ answer (omega arith) says e)
+    has_printed answer (Cannot_print script out main built are written plays is) e = absurd (numbered 8 answer (omega arith) is e)
+    has_printed answer (No_memory without is) e = absurd (numbered 9 answer (omega arith) is e)
+    has_printed answer (Has_ended script out main built are written plays is) e = record {
+      script = script;
+      out = out;
+      main = main;
+      source = written.built.source;
+      bytes = written.bytes;
+      document = built;
+      are = are;
+      has = written.built.has;
+      plays = written.plays;
+      files = all_written script out main built written;
+      printed = all_printed written.bytes built written.plays plays;
+    }
+
+module _ (words : List (List ℕ)) (old new : FilesState) (before after : SinkState) (none : NoFileFault old new) (quiet : NoSinkFault before after) (tells : IsTrue old.tells) where
+  -- a line that was to be printed was printed, or memory was refused
+  has_said : (meant n : ℕ) (line text : List ℕ) (answer : Status) → Says n text before after answer → meant ≡ n → line ≡ text → HasSaid meant line before after answer ⊎ (answer ≡ status 9)
+  has_said meant n line text answer s number same = by s.result s.prints s.is
+    where
+      by : (result : Result (Unit {0}) WriteRefusal) → Prints before (with_end text) result after → answer ≡ status_after n result → HasSaid meant line before after answer ⊎ (answer ≡ status 9)
+      by (Ok done) p is =
+          inl (record {
+            is = is ∙ ap status (sym number);
+            printed = record { tells = p.tells; faults = p.faults; told = λ t. p.told t ∙ ap (λ l. before.taken ++ with_end l) (sym same) };
+          })
+      by (Err write.Failed) p is = absurd (quiet p.faults)
+      by (Err write.NoMemory) p is = inr is
+
+  -- what was read of the two files
+  reading : (script main source commands : List ℕ) (mid : FilesState) → HasRead script main source commands old mid → HoldsBoth script main source commands old
+  reading script main source commands mid r = record {
+    source_there = source_there script main source commands old mid r tells;
+    source_fits = r.first.0;
+    script_there = script_there script main source commands old mid r tells;
+    script_fits = r.second.0;
+  }
+
+  -- a file has the same bytes in both views of it
+  same_bytes : (m n a b : List ℕ) → m ≡ n → old.bytes_of m ≡ Some a → old.bytes_of n ≡ Some b → a ≡ b
+  same_bytes m n a b same p q = some_is a b (sym p ∙ ap old.bytes_of same ∙ q)
+
+  -- which file is too long
+  data TooLong (script main name : List ℕ) : Type 0 where
+    Source : (source : List ℕ) (is : name ≡ main) (there : old.bytes_of main ≡ Some source) (long : 1048576 < length source) → TooLong script main name
+    Script : (source commands : List ℕ) (is : name ≡ script) (there : old.bytes_of main ≡ Some source) (fits : length source ≤ 1048576)
+        (script_there : old.bytes_of script ≡ Some commands) (long : 1048576 < length commands) → TooLong script main name
+
+  there_is : (o : Option (List ℕ)) → IsSomeAnd o (λ bytes. 1048576 < length bytes) → (bytes : List ℕ) × (o ≡ Some bytes) × (1048576 < length bytes)
+  there_is None long = absurd long
+  there_is (Some bytes) long = (bytes, refl, long)
+
+  too_long : (script out main name : List ℕ) → FailsToRead script main name read.TooLong old new → TooLong script main name
+  too_long script out main name (At_source is fails) = let h = there_is (old.bytes_of main) (fails.told tells).long in Source h.0 is h.1 h.2
+  too_long script out main name (At_script source mid first is fails) =
+      let h = there_is (mid.bytes_of script) (fails.told (first.1.tells ∙ tells)).long in
+      Script source h.0 is (first.1.told tells).there first.0 (sym ((first.1.told tells).tried.only.bytes script) ∙ h.1) h.2
+
+  pub refuses_rightly : (answer : Status) → Course words old new before after answer → (meant : ℕ) (line : List ℕ) → Refuses words old meant line
+      → HasSaid meant line before after answer ⊎ (answer ≡ status 9)
+  refuses_rightly answer (No_command missing files says) meant line (For_words m number same) = has_said meant 2 line (codes "flexc: bad usage") answer says number same
+  refuses_rightly answer (No_command missing files says) meant line (For_long_source script out main source are there long number same) = absurd (missing script out main are)
+  refuses_rightly answer (No_command missing files says) meant line (For_long_script script out main source commands are there fits script_there long number same) = absurd (missing script out main are)
+  refuses_rightly answer (No_command missing files says) meant line (For_source script out main source commands are both refused number same) = absurd (missing script out main are)
+  refuses_rightly answer (No_command missing files says) meant line (For_script script out main source commands document are both has some number same) = absurd (missing script out main are)
+  refuses_rightly answer (Cannot_read script out main name are fails says) meant line why = absurd (read_fails words old new script out main name are fails none)
+  refuses_rightly answer (Cannot_write script out main built are written says) meant line why = absurd (write_fails words old new script out main built written none)
+  refuses_rightly answer (Cannot_print script out main built are written plays is) meant line why = absurd (quiet plays.faults)
+  refuses_rightly answer (No_memory without is) meant line why = inr is
+  refuses_rightly answer (Too_long script out main name are fails says) meant line why = by (too_long script out main name fails) why
+    where
+      by : TooLong script main name → Refuses words old meant line → HasSaid meant line before after answer ⊎ (answer ≡ status 9)
+      by long (For_words missing number same) = absurd (missing script out main are)
+      by (Source s is there large) (For_long_source t p m source are2 there2 long2 number same) =
+          let names = same_words words script out main t p m are are2 in
+          has_said meant 10 line (name ++ codes ": too long") answer says number (same ∙ ap (λ l. l ++ codes ": too long") (sym (is ∙ names.2)))
+      by (Source s is there large) (For_long_script t p m source commands are2 there2 fits script_there long2 number same) =
+          let names = same_words words script out main t p m are are2 in
+          let e = ap length (same_bytes main m s source names.2 there there2) in absurd (omega (arith, e))
+      by (Source s is there large) (For_source t p m source commands are2 both refused number same) =
+          let names = same_words words script out main t p m are are2 in
+          let e = ap length (same_bytes main m s source names.2 there both.source_there) in let f = both.source_fits in absurd (omega (arith, e, f))
+      by (Source s is there large) (For_script t p m source commands document are2 both has some number same) =
+          let names = same_words words script out main t p m are are2 in
+          let e = ap length (same_bytes main m s source names.2 there both.source_there) in let f = both.source_fits in absurd (omega (arith, e, f))
+      by (Script s c is there fits script_there large) (For_long_source t p m source are2 there2 long2 number same) =
+          let names = same_words words script out main t p m are are2 in
+          let e = ap length (same_bytes main m s source names.2 there there2) in absurd (omega (arith, e))
+      by (Script s c is there fits script_there large) (For_long_script t p m source commands are2 there2 fits2 script_there2 long2 number same) =
+          let names = same_words words script out main t p m are are2 in
+          has_said meant 10 line (name ++ codes ": too long") answer says number (same ∙ ap (λ l. l ++ codes ": too long") (sym (is ∙ names.0)))
+      by (Script s c is there fits script_there large) (For_source t p m source commands are2 both refused number same) =
+          let names = same_words words script out main t p m are are2 in
+          let e = ap length (same_bytes script t c commands names.0 script_there both.script_there) in let f = both.script_fits in absurd (omega (arith, e, f))
+      by (Script s c is there fits script_there large) (For_script t p m source commands document are2 both has some number same) =
+          let names = same_words words script out main t p m are are2 in
+          let e = ap length (same_bytes script t c commands names.0 script_there both.script_there) in let f = both.script_fits in absurd (omega (arith, e, f))
+  refuses_rightly answer (Not_built script out main source commands are has_read refused says) meant line why = by why
+    where
+      here : HoldsBoth script main source commands old
+      here = reading script main source commands new has_read
+
+      by : Refuses words old meant line → HasSaid meant line before after answer ⊎ (answer ≡ status 9)
+      by (For_words missing number same) = absurd (missing script out main are)
+      by (For_long_source t p m s are2 there2 long2 number same) =
+          let names = same_words words script out main t p m are are2 in
+          let e = ap length (same_bytes main m source s names.2 here.source_there there2) in let f = here.source_fits in absurd (omega (arith, e, f))
+      by (For_long_script t p m s c are2 there2 fits2 script_there2 long2 number same) =
+          let names = same_words words script out main t p m are are2 in
+          let e = ap length (same_bytes script t commands c names.0 here.script_there script_there2) in let f = here.script_fits in absurd (omega (arith, e, f))
+      by (For_source t p m s c are2 both refused2 number same) =
+          let names = same_words words script out main t p m are are2 in
+          has_said meant 3 line (main ++ codes ":1:1: NotYetBuilt") answer says number (same ∙ ap (λ l. l ++ codes ":1:1: NotYetBuilt") (sym names.2))
+      by (For_script t p m s c document are2 both has some number same) =
+          let names = same_words words script out main t p m are are2 in
+          let e = same_bytes main m source s names.2 here.source_there both.source_there in
+          absurd (refused document (subst (λ n. HasDocument n source document) (sym names.2) (subst (λ b. HasDocument m b document) (sym e) has)))
+  refuses_rightly answer (Bad_script script out main source commands built are has_read has some says) meant line why = by why
+    where
+      here : HoldsBoth script main source commands old
+      here = reading script main source commands new has_read
+
+      by : Refuses words old meant line → HasSaid meant line before after answer ⊎ (answer ≡ status 9)
+      by (For_words missing number same) = absurd (missing script out main are)
+      by (For_long_source t p m s are2 there2 long2 number same) =
+          let names = same_words words script out main t p m are are2 in
+          let e = ap length (same_bytes main m source s names.2 here.source_there there2) in let f = here.source_fits in absurd (omega (arith, e, f))
+      by (For_long_script t p m s c are2 there2 fits2 script_there2 long2 number same) =
+          let names = same_words words script out main t p m are are2 in
+          let e = ap length (same_bytes script t commands c names.0 here.script_there script_there2) in let f = here.script_fits in absurd (omega (arith, e, f))
+      by (For_source t p m s c are2 both refused number same) =
+          let names = same_words words script out main t p m are are2 in
+          let e = same_bytes main m source s names.2 here.source_there both.source_there in
+          absurd (refused built (subst (λ n. HasDocument n s built) names.2 (subst (λ b. HasDocument main b built) e has)))
+      by (For_script t p m s c document are2 both has2 some2 number same) = has_said meant 4 line (codes "script:1: not yet built") answer says number same
+  refuses_rightly answer (Has_ended script out main built are written plays is) meant line why = by why
+    where
+      here : HoldsBoth script main written.built.source [] old
+      here = reading script main written.built.source [] written.mid written.built.read
+
+      by : Refuses words old meant line → HasSaid meant line before after answer ⊎ (answer ≡ status 9)
+      by (For_words missing number same) = absurd (missing script out main are)
+      by (For_long_source t p m s are2 there2 long2 number same) =
+          let names = same_words words script out main t p m are are2 in
+          let e = ap length (same_bytes main m written.built.source s names.2 here.source_there there2) in let f = here.source_fits in absurd (omega (arith, e, f))
+      by (For_long_script t p m s c are2 there2 fits2 script_there2 long2 number same) =
+          let names = same_words words script out main t p m are are2 in
+          let e = ap length (same_bytes script t [] c names.0 here.script_there script_there2) in absurd (omega (arith, e))
+      by (For_source t p m s c are2 both refused number same) =
+          let names = same_words words script out main t p m are are2 in
+          let e = same_bytes main m written.built.source s names.2 here.source_there both.source_there in
+          absurd (refused built (subst (λ n. HasDocument n s built) names.2 (subst (λ b. HasDocument main b built) e written.built.has)))
+      by (For_script t p m s c document are2 both has some number same) =
+          let names = same_words words script out main t p m are are2 in
+          absurd (some (sym (same_bytes script t [] c names.0 here.script_there both.script_there)))
+
+-- the play of a document that was built comes to its end
+pub run_ends : (words : List (List ℕ)) (outcome : Outcome) (old new : FilesState) (before after : SinkState) → HasRun words outcome old new before after → outcome ≡ Ended
+run_ends words outcome old new before after h =
+    let played = h.plays in
+    let plays = h.written.plays in
+    let same : played.story ≡ source_trace h.document [] turns = plays.only [] turns played.story (source_trace h.document [] turns) played.trace (plays.same [] turns) in
+    let small = small_document h.main h.written.built.source h.document h.written.built.has in
+    sym played.is ∙ ap (λ (s : Story). s.outcome) same ∙ ends_well h.document 999998 small.few

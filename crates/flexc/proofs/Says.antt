@@ -1,0 +1,40 @@
+-- The printing of a line in pieces.
+use Rattle.std.proofs.Common.{◌≡◌, ℕ, List, ◌++◌, Ok, Err, Result, sym, ap, ◌∙◌, subst, append_assoc}
+use Rattle.flex_edge.specs.Outside.{Rose, SinkState}
+use Rattle.flexc.specs.declared.output.WriteRefusal.{WriteRefusal}
+use Rattle.flexc.specs.declared.output.WriteRefusal.TheVariants as write
+use Rattle.flexc.specs.Whole.{HasTaken, Prints}
+
+-- a first part of what follows
+taken_behind : (x y : List ℕ) (a b c : SinkState) → b.taken ≡ a.taken ++ x → HasTaken y b c → HasTaken (x ++ y) a c
+taken_behind x y a b c before h = record {
+  part = x ++ h.part;
+  left = h.left;
+  whole = ap (λ l. x ++ l) h.whole ∙ sym (append_assoc x h.part h.left);
+  taken = h.taken ∙ ap (λ l. l ++ h.part) before ∙ append_assoc a.taken x h.part;
+}
+
+-- one piece behind another
+pub prints_then : (x y : List ℕ) (a b c : SinkState) (result : Result (Unit {0}) WriteRefusal) → Prints a x (Ok tt) b → Prints b y result c → Prints a (x ++ y) result c
+prints_then x y a b c (Ok done) p q = record {
+  tells = q.tells ∙ p.tells;
+  faults = q.faults ∙ p.faults;
+  told = λ t. q.told (p.tells ∙ t) ∙ ap (λ l. l ++ y) (p.told t) ∙ append_assoc a.taken x y;
+}
+prints_then x y a b c (Err write.Failed) p q = record {
+  tells = q.tells ∙ p.tells;
+  faults = subst (λ n. Rose n c.write_faults) p.faults q.faults;
+  told = λ t. taken_behind x y a b c (p.told t) (q.told (p.tells ∙ t));
+}
+prints_then x y a b c (Err write.NoMemory) p q = record {
+  tells = q.tells ∙ p.tells;
+  faults = q.faults ∙ p.faults;
+  told = λ t. taken_behind x y a b c (p.told t) (q.told (p.tells ∙ t));
+}
+
+-- a piece that wasn't printed whole, and one that was to follow
+pub prints_stop : (x y : List ℕ) (a b : SinkState) (refusal : WriteRefusal) → Prints a x (Err refusal) b → Prints a (x ++ y) (Err refusal) b
+prints_stop x y a b write.Failed p =
+    record { tells = p.tells; faults = p.faults; told = λ t. let h = p.told t in record { part = h.part; left = h.left ++ y; whole = ap (λ l. l ++ y) h.whole ∙ append_assoc h.part h.left y; taken = h.taken } }
+prints_stop x y a b write.NoMemory p =
+    record { tells = p.tells; faults = p.faults; told = λ t. let h = p.told t in record { part = h.part; left = h.left ++ y; whole = ap (λ l. l ++ y) h.whole ∙ append_assoc h.part h.left y; taken = h.taken } }

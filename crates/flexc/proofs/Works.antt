@@ -1,0 +1,70 @@
+-- The parts of the work of a command, put together.
+use Rattle.std.proofs.Common.{ℕ, List, [], Ok, Err, Result, refl, ◌∙◌}
+use Rattle.std.specs.Borrow.{Bor}
+use Rattle.flex_edge.specs.Outside.{FilesState, SinkState}
+use Rattle.flex_edge.specs.Calls.{SameCounts, Changes}
+use Rattle.flexc.specs.Command.{AreWords, At_script, HasBuilt, HasWrittenFile, HasNoMemory, Early}
+use Rattle.flexc.specs.PlaysAs.{PlaysAs}
+use Rattle.flexc.specs.Source.{IsNotBuilt}
+use Rattle.flexc.specs.Whole.{MakesNone, ReadsFile, WritesFile}
+use Rattle.flexc.specs.Work.{read_failure, IsRefused, HasNoDocument, HasFailed}
+use Rattle.flexc.specs.declared.command.Failure.{Failure}
+use Rattle.flexc.specs.declared.command.Failure.TheVariants as failure
+use Rattle.flexc.specs.declared.input.ReadRefusal.{ReadRefusal}
+use Rattle.flexc.specs.declared.input.ReadRefusal.TheVariants as read
+use Rattle.flexc.specs.declared.output.WriteRefusal.{WriteRefusal}
+use Rattle.flexc.specs.declared.source.Document.{Document}
+
+-- no file was made or changed in either part
+none_made : (old mid new : FilesState) → MakesNone old mid → MakesNone mid new → MakesNone old new
+none_made old mid new a b = record { bytes = λ name. b.bytes name ∙ a.bytes name; created = b.created ∙ a.created }
+
+read_then : (main source : List ℕ) (old mid new : FilesState) → ReadsFile old main (Ok source) mid → Changes mid new (SameCounts mid new) (MakesNone mid new)
+    → Changes old new (SameCounts old new) (MakesNone old new)
+read_then main source old mid new a b = record {
+  tells = b.tells ∙ a.1.tells;
+  counts = record { reads = b.counts.reads ∙ a.1.counts.reads; writes = b.counts.writes ∙ a.1.counts.writes };
+  told = λ t. none_made old mid new (a.1.told t).tried.only (b.told (a.1.tells ∙ t));
+}
+
+-- the script wasn't read
+pub script_unread : (script : Bor (List ℕ)) (main source : List ℕ) (old mid new : FilesState) (refusal : ReadRefusal) → ReadsFile old main (Ok source) mid
+    → ReadsFile mid script.now (Err refusal) new → HasNoDocument script.now main (read_failure refusal script) old new
+script_unread script main source old mid new read.Failed a b = At_script source mid a refl b
+script_unread script main source old mid new read.TooLong a b = At_script source mid a refl b
+script_unread script main source old mid new read.NoMemory a b = read_then main source old mid new a b
+
+-- both were read, and no file was made or changed
+pub only_read : (script main source commands : List ℕ) (old mid new : FilesState) → ReadsFile old main (Ok source) mid → ReadsFile mid script (Ok commands) new
+    → Changes old new (SameCounts old new) (MakesNone old new)
+only_read script main source commands old mid new a b =
+    read_then main source old mid new a (record { tells = b.1.tells; counts = b.1.counts; told = λ t. (b.1.told t).tried.only })
+
+-- the source was judged, and isn't built
+pub is_refused : (script main source commands : List ℕ) (old mid new : FilesState) → ReadsFile old main (Ok source) mid → ReadsFile mid script (Ok commands) new → IsNotBuilt main source
+    → IsRefused script main old new
+is_refused script main source commands old mid new a b refused =
+    record { source = source; commands = commands; has_read = record { mid = mid; first = a; second = b }; refused = refused }
+
+-- the words are those of a command that has nothing to play
+pub nothing_to_play : (words : List (List ℕ)) (script out main : List ℕ) (f : Failure) (old new : FilesState) (before : SinkState) → AreWords words script out main
+    → HasNoDocument script main f old new → HasFailed words f old new before before
+nothing_to_play words script out main failure.BadUsage old new before are h = absurd h
+nothing_to_play words script out main (failure.CannotRead name) old new before are h = (record { script = script; out = out; main = main; are = are; none = h }, refl)
+nothing_to_play words script out main (failure.TooLong name) old new before are h = (record { script = script; out = out; main = main; are = are; none = h }, refl)
+nothing_to_play words script out main (failure.NotYetBuilt name) old new before are h = (record { script = script; out = out; main = main; are = are; none = h }, refl)
+nothing_to_play words script out main failure.ScriptNotYetBuilt old new before are h = (record { script = script; out = out; main = main; are = are; none = h }, refl)
+nothing_to_play words script out main (failure.CannotWrite name) old new before are h = absurd h
+nothing_to_play words script out main failure.CannotPrint old new before are h = absurd h
+nothing_to_play words script out main failure.NoMemory old new before are h = Early script out main are h refl
+
+-- a document was built, and then memory was refused
+pub built_early : (words : List (List ℕ)) (script out main : List ℕ) (document : Document) (old new : FilesState) (before : SinkState) → AreWords words script out main
+    → HasBuilt script main document old new → HasNoMemory words old new before before
+built_early words script out main document old new before are h =
+    Early script out main are (only_read script main h.source [] old h.read.mid new h.read.first h.read.second) refl
+
+-- the file that was to be written plays as the document
+abbrev pub written_file : (script out main bytes : List ℕ) (document : Document) (result : Result (Unit {0}) WriteRefusal) (old mid new : FilesState) → HasBuilt script main document old mid
+    → PlaysAs bytes document → WritesFile mid out bytes result new → HasWrittenFile script out main document result old new
+written_file script out main bytes document result old mid new built plays written = record { bytes = bytes; mid = mid; built = built; plays = plays; written = written }

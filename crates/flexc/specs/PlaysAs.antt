@@ -1,0 +1,15 @@
+-- A file that plays as a source.
+use Rattle.std.specs.Prelude.{◌≡◌, ℕ, List}
+use Rattle.flexc.specs.declared.source.Document.{Document}
+use Rattle.flexc.specs.Meaning.{source_trace}
+use Rattle.flexc.specs.Playable.{IsPlayable}
+use Rattle.flexc.specs.Playing.{HasTrace, NeverFaults}
+use Rattle.flexc.specs.Script.{UserEvent}
+use Rattle.flexc.specs.Trace.{Story}
+
+-- under every script and with every number of turns the file has the trace that the source means, has no other, and meets no fault
+pub record PlaysAs (bytes : List ℕ) (document : Document) : Type 0 where
+  pub file : IsPlayable bytes
+  pub same : (events : List UserEvent) (turns : ℕ) → HasTrace bytes events turns (source_trace document events turns)
+  pub only : (events : List UserEvent) (turns : ℕ) (a b : Story) → HasTrace bytes events turns a → HasTrace bytes events turns b → a ≡ b
+  pub sound : (events : List UserEvent) (turns : ℕ) → NeverFaults bytes events turns

@@ -1,0 +1,134 @@
+-- What the meaning of a source changes, and the operations on it.
+use Rattle.std.specs.Prelude.{ℕ, zero, suc, ◌+◌, ◌-◌, List, [], ◌∷◌, ◌++◌, length, if◌then◌else◌, nat_lt, Option, Some, None, slice_get}
+use Rattle.std.specs.Str.{bytes_eq}
+use Rattle.flex_base.specs.Value.{same}
+use Rattle.flex_base.specs.declared.outcome.Outcome.{Outcome}
+use Rattle.flex_base.specs.declared.outcome.Outcome.TheVariants.{Stopped, TurnsSpent}
+use Rattle.flex_base.specs.declared.outcome.Stop.TheVariants.{Depth, Cells}
+use Rattle.flex_base.specs.declared.record.TraceItem.{TraceItem}
+use Rattle.flex_base.specs.declared.record.TraceItem.TheVariants.{Made, Written, Added}
+use Rattle.flex_base.specs.declared.value.ObjId.{ObjId}
+use Rattle.flex_base.specs.declared.value.Value.{Value}
+use Rattle.flexc.specs.declared.catalog.NativeClass.{NativeClass}
+
+-- what an object is: one of the main source, or of a native class
+pub data Kind : Type 0 where
+  Main : Kind
+  Native : (class : NativeClass) → Kind
+
+pub record Property : Type 0 where
+  pub name : List ℕ
+  pub value : Value
+
+pub record Component : Type 0 where
+  pub kind : Kind
+  pub properties : List Property
+  pub children : List ObjId
+
+pub record World : Type 0 where
+  -- the objects in the order in which they were made: the first has the number 1
+  pub objects : List Component
+  -- the cells that were taken
+  pub cells : ℕ
+  -- how many activities are open
+  pub level : ℕ
+  -- how many turns are left
+  pub turns : ℕ
+  pub records : List TraceItem
+
+-- goes on with a value, or the play is over
+pub data Result (A : Type 0) : Type 0 where
+  Goes : (v : A) (w : World) → Result A
+  Halts : (o : Outcome) (w : World) → Result A
+
+abbrev pub bind : {A B : Type 0} → Result A → (A → World → Result B) → Result B
+bind (Goes v w) f = f v w
+bind (Halts o w) f = Halts o w
+
+-- the world before a play of so many turns
+abbrev pub empty_world : ℕ → World
+empty_world turns = record { objects = []; cells = 0; level = 0; turns = turns; records = [] }
+
+abbrev pub note : TraceItem → World → World
+note item w = record w { records = w.records ++ item ∷ [] }
+
+abbrev pub spend : ℕ → World → Result (Unit {0})
+spend zero w = Halts TurnsSpent w
+spend (suc turns) w = Goes tt (record w { level = w.level + 1; turns = turns })
+
+-- an activity begins: it takes a level, of which there are 256, and a turn
+abbrev pub enter : World → Result (Unit {0})
+enter w = if nat_lt w.level 256 then spend w.turns w else Halts (Stopped Depth) w
+
+-- an activity is over, and gives its level back
+abbrev pub leave : World → World
+leave w = record w { level = w.level - 1 }
+
+abbrev pub activity : (World → Result (Unit {0})) → World → Result (Unit {0})
+activity body w = bind (enter w) (λ _ w1. bind (body w1) (λ _ w2. Goes tt (leave w2)))
+
+abbrev pub next_number : World → ObjId
+next_number w = record { 0 = suc (length w.objects) }
+
+abbrev pub with_component : Component → ℕ → World → World
+with_component c cost w = record w { objects = w.objects ++ c ∷ []; cells = w.cells + cost }
+
+-- makes an object of a class with this name: it takes 16 cells and one for each property that its source declares, of 1,000,000
+abbrev pub make : Kind → List ℕ → List Property → ℕ → World → Result ObjId
+make kind class properties declared w =
+    if nat_lt 1000000 (w.cells + (16 + declared)) then Halts (Stopped Cells) w
+    else Goes (next_number w)
+    (note (Made (next_number w) class) (with_component (record { kind = kind; properties = properties; children = [] }) (16 + declared) w))
+
+abbrev pub numbered : List Component → ℕ → Option Component
+numbered objects zero = None
+numbered objects (suc n) = slice_get objects n
+
+abbrev pub component : World → ObjId → Option Component
+component w o = numbered w.objects o.0
+
+-- the first property of a name
+abbrev pub property_named : List ℕ → List Property → Option Property
+property_named name [] = None
+property_named name (p ∷ properties) = if bytes_eq p.name name then Some p else property_named name properties
+
+abbrev pub property_in : List ℕ → Option Component → Option Property
+property_in name None = None
+property_in name (Some c) = property_named name c.properties
+
+-- the properties with a new value under a name
+abbrev pub with_value : List ℕ → Value → List Property → List Property
+with_value name v [] = []
+with_value name v (p ∷ properties) = if bytes_eq p.name name then record p { value = v } ∷ properties else p ∷ with_value name v properties
+
+-- the objects with one of them changed
+abbrev pub changed_at : (Component → Component) → List Component → ℕ → List Component
+changed_at f [] n = []
+changed_at f (c ∷ objects) zero = f c ∷ objects
+changed_at f (c ∷ objects) (suc n) = c ∷ changed_at f objects n
+
+abbrev pub changed : (Component → Component) → ℕ → List Component → List Component
+changed f zero objects = objects
+changed f (suc n) objects = changed_at f objects n
+
+abbrev pub stored : ObjId → List ℕ → Value → World → World
+stored o name v w = record w { objects = changed (λ c. record c { properties = with_value name v c.properties }) o.0 w.objects }
+
+abbrev pub write_over : ObjId → List ℕ → Option Property → Value → World → World
+write_over o name None v w = w
+write_over o name (Some p) v w = if same p.value v then w else note (Written o name v) (stored o name v w)
+
+-- writes a public property: a value that equals the old one by `===` changes nothing
+abbrev pub write : ObjId → List ℕ → Value → World → Result (Unit {0})
+write o name v w = Goes tt (write_over o name (property_in name (component w o)) v w)
+
+abbrev pub child_count : Option Component → ℕ
+child_count None = 0
+child_count (Some c) = length c.children
+
+abbrev pub with_child : ObjId → ObjId → World → World
+with_child parent child w = record w { objects = changed (λ c. record c { children = c.children ++ child ∷ [] }) parent.0 w.objects }
+
+-- adds a declared child behind those that were declared and added before it
+abbrev pub add : ObjId → ObjId → World → Result (Unit {0})
+add parent child w = Goes tt (note (Added parent child (child_count (component w parent))) (with_child parent child w))
