@@ -1,2 +1,5 @@
+pub mod Assembled
+pub mod Encoded
 pub mod Read
 pub mod Spelled
+pub mod Stands
