@@ -3,3 +3,4 @@ pub mod Calls
 pub mod Memory
 pub mod MemoryCalls
 pub mod Host
+pub mod Whole

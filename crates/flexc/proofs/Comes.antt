@@ -1,7 +1,7 @@
 -- Plays of the machine that follow a meaning.
 use Rattle.std.proofs.Common.{◌≡◌, ℕ, zero, suc, List, [], refl, sym, subst}
 use Rattle.abc_format.specs.declared.records.Abc.{Abc}
-use Rattle.flexc.specs.Playing.{Config, advance, run}
+use Rattle.script_player.specs.Playing.{Config, advance, run}
 
 module _ (abc : Abc) (main : List ℕ) where
   -- the machine goes from one configuration to another, without a line of a script

@@ -9,19 +9,19 @@ use Rattle.flex_edge.specs.Outside.{Rose, FilesState, SinkState}
 use Rattle.flex_edge.specs.Calls.{SameCounts, Changes, SinkChanges}
 use Rattle.flexc.specs.Command.{turns, status, status_after, AreWords, HasRead, FailsToRead, At_source, At_script, HasBuilt, HasWrittenFile, Says, HasNoMemory, Early, Writing, Playing, Course, No_command, Cannot_read, Too_long, Not_built, Bad_script, Cannot_write, Cannot_print, No_memory, Has_ended, HoldsFile, HasPrintedTrace, IsRunnable, NoFileFault, NoSinkFault, RunsWhole, RunsInPart, HoldsBoth, Refuses, For_words, For_long_source, For_long_script, For_source, For_script, HasSaid}
 use Rattle.flexc.specs.Meaning.{source_trace}
-use Rattle.flexc.specs.Playing.{HasTrace}
+use Rattle.script_player.specs.Playing.{HasTrace}
 use Rattle.flexc.specs.PlaysAs.{PlaysAs}
-use Rattle.flexc.specs.Printed.{HasPlayed, Plays}
+use Rattle.script_player.specs.Printed.{HasPlayed, Plays}
 use Rattle.flexc.specs.Source.{HasDocument, IsNotBuilt}
-use Rattle.flexc.specs.Trace.{Story, text, with_end}
-use Rattle.flexc.specs.Whole.{HasTaken, Prints}
+use Rattle.script_player.specs.Trace.{Story, text, with_end}
+use Rattle.flex_edge.specs.Whole.{HasTaken, Prints}
 use Rattle.flexc.specs.Work.{HasFailed, HasRun, Reports}
 use Rattle.flexc.specs.declared.command.Failure.{Failure}
 use Rattle.flexc.specs.declared.command.Failure.TheVariants as failure
 use Rattle.flexc.specs.declared.command.Status.{Status}
-use Rattle.flexc.specs.declared.input.ReadRefusal.TheVariants as read
-use Rattle.flexc.specs.declared.output.WriteRefusal.{WriteRefusal}
-use Rattle.flexc.specs.declared.output.WriteRefusal.TheVariants as write
+use Rattle.flex_edge.specs.declared.input.ReadRefusal.TheVariants as read
+use Rattle.flex_edge.specs.declared.output.WriteRefusal.{WriteRefusal}
+use Rattle.flex_edge.specs.declared.output.WriteRefusal.TheVariants as write
 use Rattle.flexc.specs.declared.source.Document.{Document}
 use Rattle.flexc.proofs.EndsWell.{ends_well}
 use Rattle.flexc.proofs.Sources.{one_document, small_document, source_short}

@@ -9,7 +9,7 @@ use Rattle.flex_base.specs.declared.value.ObjId.{ObjId}
 use Rattle.flexc.specs.declared.source.Label.{Label}
 use Rattle.flexc.specs.declared.source.Document.{Document}
 use Rattle.flexc.specs.Meaning.{build_label, build_all, construct, do_all, play, told, source_trace}
-use Rattle.flexc.specs.Script.{UserEvent}
+use Rattle.script_player.specs.Script.{UserEvent}
 use Rattle.flexc.specs.World.{Kind, Property, World, Result, Goes, Halts, bind, empty_world, spend, enter, leave, activity, make, next_number}
 
 abbrev FairEnd : {A : Type 0} → Result A → Type 0

@@ -7,15 +7,15 @@ use Rattle.abc_format.specs.declared.records.Abc.{Abc}
 use Rattle.abc_format.specs.declared.records.Multiname.TheVariants.{QName}
 use Rattle.abc_format.specs.declared.records.Trait.{Trait}
 use Rattle.abc_format.specs.declared.records.TraitKind.TheVariants as trait_kind
-use Rattle.flexc.specs.declared.catalog.NativeClass.TheVariants as native
+use Rattle.avm2_machine.specs.declared.catalog.NativeClass.TheVariants as native
 use Rattle.flexc.specs.declared.source.Label.{Label}
-use Rattle.flexc.specs.declared.stage.Class.TheVariants as class
-use Rattle.flexc.specs.declared.stage.PropertyType.TheVariants as type
-use Rattle.flexc.specs.declared.stage.Slot.{Slot}
+use Rattle.avm2_machine.specs.declared.stage.Class.TheVariants as class
+use Rattle.avm2_machine.specs.declared.stage.PropertyType.TheVariants as type
+use Rattle.avm2_machine.specs.declared.stage.Slot.{Slot}
 use Rattle.flexc.specs.Emitted.{each_from, id_string, text_string, id_name, rank_int, fixed_names, fixed_strings, label_strings, id_trait, building_trait, instance_traits, abc_of}
 use Rattle.flexc.specs.Meaning.{id_property}
-use Rattle.flexc.specs.Names.{Name, entry, string_at, name_of, with_texts, name_at, native_at, is_name}
-use Rattle.flexc.specs.Tables.{public_text, public_at, typed_slot, declared_slot, and_slot, declared_onto, method_by, is_named, method_named}
+use Rattle.avm2_machine.specs.Names.{Name, entry, string_at, name_of, with_texts, name_at, native_at, is_name}
+use Rattle.avm2_machine.specs.Tables.{public_text, public_at, typed_slot, declared_slot, and_slot, declared_onto, method_by, is_named, method_named}
 use Rattle.flexc.proofs.States.{slot_of}
 
 -- what stands behind other items

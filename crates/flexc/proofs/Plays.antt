@@ -1,5 +1,5 @@
 -- The file of a document plays as the document.
-use Rattle.std.proofs.Common.{◌≡◌, ℕ, zero, suc, ◌+◌, ◌<◌, ◌≤◌, List, [], ◌∷◌, ◌++◌, length, None, Some, refl, sym, ap, ◌∙◌, subst, arith, append_assoc}
+use Rattle.std.proofs.Common.{◌≡◌, ℕ, ◌+◌, ◌≤◌, List, [], ◌∷◌, length, None, Some, refl, sym, ap, ◌∙◌, subst, arith}
 use Rattle.std.specs.Prelude.{map, option_map, slice_get, codes, true}
 use Rattle.std.proofs.lemmas.List.{length-map}
 use Rattle.std.proofs.lemmas.Simd.{map-map}
@@ -7,57 +7,33 @@ use Rattle.abc_format.specs.declared.records.Abc.{Abc}
 use Rattle.abc_format.specs.Numbers.{u30_bytes, u32_at}
 use Rattle.flex_base.specs.declared.record.TraceItem.TheVariants.{Made}
 use Rattle.flex_base.specs.declared.value.Value.TheVariants as value
-use Rattle.flexc.specs.declared.frame.Operand.TheVariants as operand
-use Rattle.flexc.specs.declared.instruction.Instruction.{Instruction}
-use Rattle.flexc.specs.declared.instruction.Instruction.TheVariants.{ReturnVoid, ConstructSuper, CallPropVoid, GetLocal0}
-use Rattle.flexc.specs.declared.machine.Load.TheVariants as load
-use Rattle.flexc.specs.declared.machine.Machine.{Machine}
+use Rattle.avm2_machine.specs.declared.frame.Operand.TheVariants as operand
+use Rattle.avm2_code.specs.declared.instruction.Instruction.TheVariants.{ConstructSuper, CallPropVoid, GetLocal0}
+use Rattle.avm2_machine.specs.declared.machine.Load.TheVariants as load
+use Rattle.avm2_machine.specs.declared.machine.Machine.{Machine}
 use Rattle.flexc.specs.declared.source.Label.{Label}
 use Rattle.flexc.specs.declared.source.Document.{Document}
-use Rattle.flexc.specs.declared.stage.Class.TheVariants as class
-use Rattle.flexc.specs.Code.{encode, encode_all}
-use Rattle.flexc.specs.Emitted.{each_from, label_code, constructor_code, building_code, body, instance_of, main_text}
-use Rattle.flexc.specs.Machine.{Moved, recorded, and_then, makes, makes_main, entered, class_method}
+use Rattle.avm2_machine.specs.declared.stage.Class.TheVariants as class
+use Rattle.flexc.specs.Emitted.{encode_all, constructor_code, building_code, body, instance_of, main_text}
+use Rattle.avm2_machine.specs.Machine.{Moved, recorded, and_then, makes, makes_main, entered, class_method}
 use Rattle.flexc.specs.Meaning.{id_property, build_all, construct, do_all, play, told, source_trace}
-use Rattle.flexc.specs.Playing.{Config, boot, first, moved_on, advance, over, ComesTo}
-use Rattle.flexc.specs.Stage.{empty_stage, object_at}
+use Rattle.script_player.specs.Playing.{Config, boot, first, moved_on, advance, over, ComesTo}
+use Rattle.avm2_machine.specs.Stage.{empty_stage, object_at}
 use Rattle.flexc.specs.World.{Main, World, Result, Goes, Halts, bind, empty_world, note, enter, leave, activity, with_component}
 use Rattle.flexc.proofs.Comes.{Comes, comes_on, comes_then}
-use Rattle.flexc.proofs.Decoded.{Stands, AreEncodable, size, code_stands}
+use Rattle.flexc.proofs.Decoded.{Stands, size, code_stands}
+use Rattle.flexc.proofs.Encodable.{building_encodable, constructor_encodable}
 use Rattle.flexc.proofs.Looked.{abc, building, building_name, building_is_other, building_method, id_slot, declared_are}
 use Rattle.flexc.proofs.Runs.{one, IsReady, builds, building_sim}
 use Rattle.flexc.proofs.Sims.{frame, ref, after, Sim, sim_done, sim_assoc, makes_sim, entered_sim, get_0_sim, super_sim, call_sim, return_sim}
 use Rattle.flexc.proofs.States.{object_of, stage_of, machine_of, slot_of, type_of, at, object_is}
 
-encode_all-append : (is js : List Instruction) → encode_all (is ++ js) ≡ encode_all is ++ encode_all js
-encode_all-append [] js = refl
-encode_all-append (i ∷ is) js = ap (λ l. encode i ++ l) (encode_all-append is js) ∙ sym (append_assoc (encode i) (encode_all is) (encode_all js))
-
-encode_all-each : (f : ℕ → List Instruction) (k n : ℕ) → encode_all (each_from f k n) ≡ each_from (λ i. encode_all (f i)) k n
-encode_all-each f k zero = refl
-encode_all-each f k (suc n) = encode_all-append (f k) (each_from f (suc k) n) ∙ ap (λ l. encode_all (f k) ++ l) (encode_all-each f (suc k) n)
-
-encodable-append : (is js : List Instruction) → AreEncodable is → AreEncodable js → AreEncodable (is ++ js)
-encodable-append [] js a b = b
-encodable-append (i ∷ is) js a b = (a.0, encodable-append is js a.1 b)
-
-label_encodable : (k : ℕ) → k < 100 → AreEncodable (label_code k)
-label_encodable k lt =
-    (omega arith, ((omega arith, omega arith), (tt, (tt, (tt, (omega arith, (tt, (omega arith, (omega arith, (tt, (tt, (tt, (omega arith, ((omega arith, omega arith), tt))))))))))))))
-
-labels_encodable : (k n : ℕ) → k + n ≤ 100 → AreEncodable (each_from label_code k n)
-labels_encodable k zero le = tt
-labels_encodable k (suc n) le = encodable-append (label_code k) (each_from label_code (suc k) n) (label_encodable k (omega arith)) (labels_encodable (suc k) n (omega arith))
-
--- the code of the method that builds, as instructions
-building_stands : (count : ℕ) → count ≤ 100 → Stands (building_code count) 0 (each_from label_code 0 count ++ ReturnVoid ∷ []) (length (encode_all (each_from label_code 0 count ++ ReturnVoid ∷ [])))
-building_stands count few =
-    let is = each_from label_code 0 count ++ ReturnVoid ∷ [] in
-    let e : encode_all is ≡ building_code count = encode_all-append (each_from label_code 0 count) (ReturnVoid ∷ []) ∙ ap (λ l. l ++ encode_all (ReturnVoid ∷ [])) (encode_all-each label_code 0 count) in
-    subst (λ code. Stands code 0 is (length (encode_all is))) e (code_stands is (encodable-append (each_from label_code 0 count) (ReturnVoid ∷ []) (labels_encodable 0 count (omega arith)) (tt, tt)))
+-- the code of the method that builds
+building_stands : (count : ℕ) → count ≤ 100 → Stands (encode_all (building_code count)) 0 (building_code count) (length (encode_all (building_code count)))
+building_stands count few = code_stands (building_code count) (building_encodable count few)
 
 constructor_stands : Stands (encode_all constructor_code) 0 constructor_code (length (encode_all constructor_code))
-constructor_stands = code_stands constructor_code (tt, (omega arith, (tt, ((omega arith, omega arith), (tt, tt)))))
+constructor_stands = code_stands constructor_code constructor_encodable
 
 module _ (labels : List Label) (few : length labels ≤ 100) where
   abbrev p : Abc

@@ -8,16 +8,16 @@ use Rattle.swf_tags.specs.Spelling.{swf_bytes}
 use Rattle.flexc.specs.declared.source.Document.{Document}
 use Rattle.flexc.specs.Emitted.{abc_of, main_text}
 use Rattle.flexc.specs.Meaning.{source_trace}
-use Rattle.flexc.specs.Playable.{IsPlayable}
-use Rattle.flexc.specs.Playing.{first, boot, over, HasTrace, NeverFaults}
+use Rattle.script_player.specs.Playable.{IsPlayable}
+use Rattle.script_player.specs.Playing.{first, boot, over, HasTrace, NeverFaults}
 use Rattle.flexc.specs.PlaysAs.{PlaysAs}
-use Rattle.flexc.specs.Script.{UserEvent}
+use Rattle.script_player.specs.Script.{UserEvent}
 use Rattle.flexc.specs.Source.{IsShort}
-use Rattle.flexc.proofs.AbcRelated.{written_is_abc}
+use Rattle.script_player.proofs.AbcRelated.{written_is_abc}
 use Rattle.flexc.proofs.Built.{built_is_swf}
-use Rattle.flexc.proofs.Ends.{one_end}
+use Rattle.script_player.proofs.Ends.{one_end}
 use Rattle.flexc.proofs.Fair.{outcome_fairly}
-use Rattle.flexc.proofs.Files.{comes_alike, one_trace}
+use Rattle.script_player.proofs.Files.{comes_alike, one_trace}
 use Rattle.flexc.proofs.Plays.{comes_to}
 use Rattle.flexc.proofs.Written.{abc_is_written}
 

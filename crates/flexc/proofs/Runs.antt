@@ -11,18 +11,18 @@ use Rattle.flex_base.specs.declared.record.TraceItem.TheVariants.{Made, Written}
 use Rattle.flex_base.specs.declared.value.ObjId.{ObjId}
 use Rattle.flex_base.specs.declared.value.Value.{Value}
 use Rattle.flex_base.specs.declared.value.Value.TheVariants as value
-use Rattle.flexc.specs.declared.catalog.NativeClass.TheVariants as native
-use Rattle.flexc.specs.declared.frame.CodeFrame.{CodeFrame}
-use Rattle.flexc.specs.declared.frame.Operand.{Operand}
-use Rattle.flexc.specs.declared.frame.Operand.TheVariants as operand
-use Rattle.flexc.specs.declared.instruction.Instruction.{Instruction}
-use Rattle.flexc.specs.declared.instruction.Instruction.TheVariants.{PushString, PushInt, ReturnVoid, ConstructProp, CallPropVoid, FindPropStrict, SetProperty, GetLocal0, GetLocal1, SetLocal1}
+use Rattle.avm2_machine.specs.declared.catalog.NativeClass.TheVariants as native
+use Rattle.avm2_machine.specs.declared.frame.CodeFrame.{CodeFrame}
+use Rattle.avm2_machine.specs.declared.frame.Operand.{Operand}
+use Rattle.avm2_machine.specs.declared.frame.Operand.TheVariants as operand
+use Rattle.avm2_code.specs.declared.instruction.Instruction.{Instruction}
+use Rattle.avm2_code.specs.declared.instruction.Instruction.TheVariants.{PushString, PushInt, ReturnVoid, ConstructProp, CallPropVoid, FindPropStrict, SetProperty, GetLocal0, GetLocal1, SetLocal1}
 use Rattle.flexc.specs.declared.source.Label.{Label}
-use Rattle.flexc.specs.declared.stage.Class.TheVariants as class
-use Rattle.flexc.specs.Emitted.{each_from, id_name, text_string, rank_int, label_code, building_code, body, main_text}
+use Rattle.avm2_machine.specs.declared.stage.Class.TheVariants as class
+use Rattle.flexc.specs.Emitted.{encode_all, each_from, id_name, text_string, rank_int, label_code, building_code, body, main_text}
 use Rattle.flexc.specs.Meaning.{label_properties, build_label, build_all}
-use Rattle.flexc.specs.Playing.{Config}
-use Rattle.flexc.specs.Stage.{object_at, has_class}
+use Rattle.script_player.specs.Playing.{Config}
+use Rattle.avm2_machine.specs.Stage.{object_at, has_class}
 use Rattle.flexc.specs.World.{Main, Native, Property, Component, World, Result, Goes, bind, note, leave, component, with_component, next_number, property_named, with_value, changed_at, write_over, write, add, make, stored, with_child}
 use Rattle.flexc.proofs.Decoded.{Stands, parts, size}
 use Rattle.flexc.proofs.Looked.{slice_get_seam, abc, label_class, text_name, place_name, text_is, id_public, rank_is}
@@ -182,7 +182,7 @@ module _ (labels : List Label) where
 
   -- the code of the method that builds the document
   abbrev pub code : List ℕ
-  code = building_code (length labels)
+  code = encode_all (building_code (length labels))
 
   abbrev pub building_body : MethodBody
   building_body = body 3 4 2 code

@@ -1,9 +1,9 @@
 -- The printing of a line in pieces.
 use Rattle.std.proofs.Common.{◌≡◌, ℕ, List, ◌++◌, Ok, Err, Result, sym, ap, ◌∙◌, subst, append_assoc}
 use Rattle.flex_edge.specs.Outside.{Rose, SinkState}
-use Rattle.flexc.specs.declared.output.WriteRefusal.{WriteRefusal}
-use Rattle.flexc.specs.declared.output.WriteRefusal.TheVariants as write
-use Rattle.flexc.specs.Whole.{HasTaken, Prints}
+use Rattle.flex_edge.specs.declared.output.WriteRefusal.{WriteRefusal}
+use Rattle.flex_edge.specs.declared.output.WriteRefusal.TheVariants as write
+use Rattle.flex_edge.specs.Whole.{HasTaken, Prints}
 
 -- a first part of what follows
 taken_behind : (x y : List ℕ) (a b c : SinkState) → b.taken ≡ a.taken ++ x → HasTaken y b c → HasTaken (x ++ y) a c

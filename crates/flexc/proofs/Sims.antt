@@ -1,5 +1,5 @@
 -- What each instruction does in the words of the source.
-use Rattle.std.proofs.Common.{◌≡◌, ℕ, zero, suc, ◌+◌, ◌<◌, ℤ, List, [], ◌∷◌, length, drop, None, Some, Bool, true, false, refl, sym, ap, ◌∙◌, subst}
+use Rattle.std.proofs.Common.{◌≡◌, ℕ, zero, suc, ◌+◌, ◌<◌, ℤ, List, [], ◌∷◌, length, None, Some, Ok, Bool, true, false, refl, sym, ap, ◌∙◌, subst}
 use Rattle.std.specs.Prelude.{map, option_map, slice_get, nat_lt, if◌then◌else◌, codes}
 use Rattle.std.proofs.lemmas.Bool.{lt-ltb}
 use Rattle.std.proofs.lemmas.List.{length-map}
@@ -14,21 +14,22 @@ use Rattle.flex_base.specs.declared.record.TraceItem.TheVariants.{Made, Written,
 use Rattle.flex_base.specs.declared.value.ObjId.{ObjId}
 use Rattle.flex_base.specs.declared.value.Value.{Value}
 use Rattle.flex_base.specs.declared.value.Value.TheVariants as value
-use Rattle.flexc.specs.declared.catalog.NativeClass.{NativeClass}
-use Rattle.flexc.specs.declared.frame.CodeFrame.{CodeFrame}
-use Rattle.flexc.specs.declared.frame.Operand.{Operand}
-use Rattle.flexc.specs.declared.frame.Operand.TheVariants as operand
-use Rattle.flexc.specs.declared.instruction.Instruction.{Instruction}
-use Rattle.flexc.specs.declared.instruction.Instruction.TheVariants.{PushString, PushInt, ReturnVoid, ConstructSuper, ConstructProp, CallPropVoid, FindPropStrict, SetProperty, GetLocal0, GetLocal1, SetLocal1}
-use Rattle.flexc.specs.declared.machine.Machine.{Machine}
-use Rattle.flexc.specs.declared.stage.PropertyType.TheVariants as type
-use Rattle.flexc.specs.declared.stage.Slot.{Slot}
-use Rattle.flexc.specs.Code.{decode}
-use Rattle.flexc.specs.Machine.{Moved, Making, Unmade, IsMade, silent, ends, act, executes, pushes_found, recorded, and_then, makes, with_frame, with_operand, makes_native, ended, writes_public, writes_slot, writes, calls, calls_method, enters_found, class_method, adds, entered, with_turn, opens_body}
-use Rattle.flexc.specs.Names.{Name, entry, string_at, name_at, native_at, class_name, is_name}
-use Rattle.flexc.specs.Playing.{Config, moved_on, advance}
-use Rattle.flexc.specs.Stage.{too_many_cells, is_of, native_slots, property, slot_of as stage_slot_of, children_of, object_at, next_place, next_object, with_object, with_property}
-use Rattle.flexc.specs.Tables.{fetch, code_from, body_of, first_locals, public_at}
+use Rattle.avm2_machine.specs.declared.catalog.NativeClass.{NativeClass}
+use Rattle.avm2_machine.specs.declared.frame.CodeFrame.{CodeFrame}
+use Rattle.avm2_machine.specs.declared.frame.Operand.{Operand}
+use Rattle.avm2_machine.specs.declared.frame.Operand.TheVariants as operand
+use Rattle.avm2_code.specs.declared.instruction.Instruction.{Instruction}
+use Rattle.avm2_code.specs.declared.instruction.Instruction.TheVariants.{PushString, PushInt, ReturnVoid, ConstructSuper, ConstructProp, CallPropVoid, FindPropStrict, SetProperty, GetLocal0, GetLocal1, SetLocal1}
+use Rattle.avm2_machine.specs.declared.machine.Machine.{Machine}
+use Rattle.avm2_machine.specs.declared.stage.PropertyType.TheVariants as type
+use Rattle.avm2_machine.specs.declared.stage.Slot.{Slot}
+use Rattle.std.specs.Result.{result_ok}
+use Rattle.avm2_code.specs.Reading.{instruction_at}
+use Rattle.avm2_machine.specs.Machine.{Moved, Making, Unmade, IsMade, silent, ends, act, executes, pushes_found, recorded, and_then, makes, with_frame, with_operand, makes_native, ended, writes_public, writes_slot, writes, calls, calls_method, enters_found, class_method, adds, entered, with_turn, opens_body}
+use Rattle.avm2_machine.specs.Names.{Name, entry, string_at, name_at, native_at, class_name, is_name}
+use Rattle.script_player.specs.Playing.{Config, moved_on, advance}
+use Rattle.avm2_machine.specs.Stage.{too_many_cells, is_of, native_slots, property, slot_of as stage_slot_of, children_of, object_at, next_place, next_object, with_object, with_property}
+use Rattle.avm2_machine.specs.Tables.{fetch, fetch_in, body_of, first_locals, public_at}
 use Rattle.flexc.specs.World.{Kind, Native, Property, Component, World, Result, Goes, Halts, bind, note, spend, enter, leave, make, next_number, with_component, component, property_in, property_named, write, write_over, stored, add, child_count, with_child}
 use Rattle.flexc.proofs.Comes.{Comes, comes_here, comes_then, comes_on}
 use Rattle.flexc.proofs.Decoded.{size}
@@ -137,13 +138,13 @@ module _ (abc : Abc) (main : List ℕ) where
 
   module _ (b : ℕ) (body : MethodBody) (has : slice_get abc.method_bodies b ≡ Some body) where
     abbrev pub Here : ℕ → Instruction → Type 0
-    Here a i = decode (drop a body.code) ≡ Some (i, size i)
+    Here a i = instruction_at body.code a ≡ Ok (i, a + size i)
 
     -- one instruction
     pub sim_at : {A : Type 0} (i : Instruction) (a : ℕ) (st ls : List Operand) (fs : List CodeFrame) (w : World) (r : Result A) (k : A → World → Config) → Here a i
         → Sim (turned w (act abc i (frame b (a + size i) st ls) (machine_of fs None w))) r k → Sim (at (frame b a st ls ∷ fs) w) r k
     sim_at i a st ls fs w r k here s =
-        let fetched : fetch abc (frame b a st ls) ≡ Some (i, size i) = ap (λ o. decode (code_from a o)) has ∙ here in
+        let fetched : fetch abc (frame b a st ls) ≡ Some (i, a + size i) = ap (λ o. fetch_in o a) has ∙ ap result_ok here in
         sim_then (at (frame b a st ls ∷ fs) w) r k (subst (λ o. Sim (turned w (executes abc o (frame b a st ls) (machine_of fs None w))) r k) (sym fetched) s)
 
     module _ (a : ℕ) (st : List Operand) (fs : List CodeFrame) (w : World) where

@@ -1,11 +1,12 @@
 -- Bytes of which there are at most so many.
 use Rattle.std.proofs.Common.{◌≡◌, ℕ, zero, suc, ◌+◌, ◌*◌, ◌<◌, ◌≤◌, List, [], ◌∷◌, ◌++◌, length, refl, ap, arith, length-append}
-use Rattle.std.specs.Prelude.{nat_lt, if◌then◌else◌, Bool, true, false, ◌%◌, ◌/◌, All, ℤ}
+use Rattle.std.specs.Prelude.{All, ℤ}
 use Rattle.std.specs.List.{flat_map}
 use Rattle.std.proofs.Math.Nat.{mul-suc, mul-le-mul_left}
 use Rattle.std.proofs.lemmas.List.Elements.{All-head, All-tail, All-nil, All-cons}
-use Rattle.abc_format.specs.Numbers.{groups, u30_bytes, int_bytes}
+use Rattle.abc_format.specs.Numbers.{u30_bytes, int_bytes}
 use Rattle.abc_format.specs.Spelling.{counted, table, table_count}
+use Rattle.avm2_code.proofs.Sizes.{u30-length}
 use Rattle.flexc.specs.Emitted.{each_from}
 
 -- bytes, so many at most
@@ -32,19 +33,9 @@ pub ◌⊕◌ : {m n : ℕ} {a b : List ℕ} → Within m a → Within n b → W
     let g = w.within in
     record { within = omega (arith, length-append a b) }
 
--- so many groups take at most so many bytes
-length-groups : (k n : ℕ) → length (groups k n) ≤ k
-length-groups zero n = omega arith
-length-groups (suc k) n = by (nat_lt n 128) (length-groups k (n / 128))
-  where
-    by : (t : Bool) → length (groups k (n / 128)) ≤ k → length (if t then n ∷ [] else (128 + n % 128) ∷ groups k (n / 128)) ≤ suc k
-    by true h = omega arith
-    by false h = omega arith
-
 -- a u30 in its shortest spelling
 pub u30-within : (n : ℕ) → Within 5 (u30_bytes n)
-unfolding u30_bytes
-u30-within n = record { within = length-groups 5 n }
+u30-within n = record { within = u30-length n }
 
 -- an int of the pool
 pub int-within : (z : ℤ) → Within 5 (int_bytes z)
@@ -84,6 +75,11 @@ each_from-within f most k (suc n) each =
 pub each_from-length : {A : Type 0} (f : ℕ → A) (k n : ℕ) → length (each_from (λ i. f i ∷ []) k n) ≡ n
 each_from-length f k zero = refl
 each_from-length f k (suc n) = ap suc (each_from-length f (suc k) n)
+
+-- as many items for each number
+pub each_from-long : {A : Type 0} (f : ℕ → List A) (most k n : ℕ) → ((i : ℕ) → length (f i) ≡ most) → length (each_from f k n) ≡ most * n
+each_from-long f most k zero long = omega arith
+each_from-long f most k (suc n) long = omega (arith, length-append (f k) (each_from f (suc k) n), long k, each_from-long f most (suc k) n long, mul-suc most n)
 
 -- what holds of the item of each number holds of them all
 pub each_from-all : {A : Type 0} (P : A → Type 0) (f : ℕ → A) (k n most : ℕ) → k + n ≤ most → ((i : ℕ) → i < most → P (f i)) → All P (each_from (λ i. f i ∷ []) k n)

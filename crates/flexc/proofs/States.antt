@@ -7,19 +7,19 @@ use Rattle.std.proofs.lemmas.Option.{slice_get-map}
 use Rattle.flex_base.specs.declared.outcome.Outcome.{Outcome}
 use Rattle.flex_base.specs.declared.value.ObjId.{ObjId}
 use Rattle.flex_base.specs.declared.value.Value.{Value}
-use Rattle.flexc.specs.declared.catalog.NativeClass.TheVariants as native
-use Rattle.flexc.specs.declared.frame.CodeFrame.{CodeFrame}
-use Rattle.flexc.specs.declared.machine.Load.TheVariants as load
-use Rattle.flexc.specs.declared.machine.Machine.{Machine}
-use Rattle.flexc.specs.declared.stage.Class.{Class}
-use Rattle.flexc.specs.declared.stage.Class.TheVariants as class
-use Rattle.flexc.specs.declared.stage.PropertyType.{PropertyType}
-use Rattle.flexc.specs.declared.stage.PropertyType.TheVariants as type
-use Rattle.flexc.specs.declared.stage.Slot.{Slot}
-use Rattle.flexc.specs.declared.stage.Object.{Object}
-use Rattle.flexc.specs.declared.stage.Stage.{Stage}
-use Rattle.flexc.specs.Stage.{object_at, slot_named, next_object, with_object, with_value as with_slot_value, changed_at as changed_object_at, with_property, with_child as with_stage_child}
-use Rattle.flexc.specs.Playing.{Config}
+use Rattle.avm2_machine.specs.declared.catalog.NativeClass.TheVariants as native
+use Rattle.avm2_machine.specs.declared.frame.CodeFrame.{CodeFrame}
+use Rattle.avm2_machine.specs.declared.machine.Load.TheVariants as load
+use Rattle.avm2_machine.specs.declared.machine.Machine.{Machine}
+use Rattle.avm2_machine.specs.declared.stage.Class.{Class}
+use Rattle.avm2_machine.specs.declared.stage.Class.TheVariants as class
+use Rattle.avm2_machine.specs.declared.stage.PropertyType.{PropertyType}
+use Rattle.avm2_machine.specs.declared.stage.PropertyType.TheVariants as type
+use Rattle.avm2_machine.specs.declared.stage.Slot.{Slot}
+use Rattle.avm2_machine.specs.declared.stage.Object.{Object}
+use Rattle.avm2_machine.specs.declared.stage.Stage.{Stage}
+use Rattle.avm2_machine.specs.Stage.{object_at, slot_named, next_object, with_object, with_value as with_slot_value, changed_at as changed_object_at, with_property, with_child as with_stage_child}
+use Rattle.script_player.specs.Playing.{Config}
 use Rattle.flexc.specs.World.{Kind, Main, Native, Property, Component, World, next_number, with_component, component, numbered, property_named, with_value, changed_at, stored, with_child}
 
 abbrev pub class_of : Kind → Class

@@ -6,13 +6,13 @@ use Rattle.flex_edge.specs.Calls.{SameCounts, Changes}
 use Rattle.flexc.specs.Command.{AreWords, At_script, HasBuilt, HasWrittenFile, HasNoMemory, Early}
 use Rattle.flexc.specs.PlaysAs.{PlaysAs}
 use Rattle.flexc.specs.Source.{IsNotBuilt}
-use Rattle.flexc.specs.Whole.{MakesNone, ReadsFile, WritesFile}
+use Rattle.flex_edge.specs.Whole.{MakesNone, ReadsFile, WritesFile}
 use Rattle.flexc.specs.Work.{read_failure, IsRefused, HasNoDocument, HasFailed}
 use Rattle.flexc.specs.declared.command.Failure.{Failure}
 use Rattle.flexc.specs.declared.command.Failure.TheVariants as failure
-use Rattle.flexc.specs.declared.input.ReadRefusal.{ReadRefusal}
-use Rattle.flexc.specs.declared.input.ReadRefusal.TheVariants as read
-use Rattle.flexc.specs.declared.output.WriteRefusal.{WriteRefusal}
+use Rattle.flex_edge.specs.declared.input.ReadRefusal.{ReadRefusal}
+use Rattle.flex_edge.specs.declared.input.ReadRefusal.TheVariants as read
+use Rattle.flex_edge.specs.declared.output.WriteRefusal.{WriteRefusal}
 use Rattle.flexc.specs.declared.source.Document.{Document}
 
 -- no file was made or changed in either part

@@ -8,11 +8,10 @@ use Rattle.std.proofs.lemmas.List.Elements.{All-nil, All-cons, All-from_recursio
 use Rattle.abc_format.specs.Spelling.{abc_bytes}
 use Rattle.abc_format.specs.declared.records.Multiname.TheVariants.{QName}
 use Rattle.flexc.specs.declared.source.Label.{Label}
-use Rattle.flexc.specs.declared.instruction.Instruction.TheVariants.{ReturnVoid}
-use Rattle.flexc.specs.Code.{encode_all}
-use Rattle.flexc.specs.AbcLaws.{IsU30, IsList, IsInt, IsText, IsNamespace, IsMultiname, IsPool, IsMethod, IsMetadata, IsItem, IsTrait, IsInstance, IsClass, IsScript, IsBody, IsWritten}
+use Rattle.avm2_code.specs.declared.instruction.Instruction.TheVariants.{ReturnVoid}
+use Rattle.script_player.specs.AbcLaws.{IsU30, IsList, IsInt, IsText, IsNamespace, IsMultiname, IsPool, IsMethod, IsMetadata, IsItem, IsTrait, IsInstance, IsClass, IsScript, IsBody, IsWritten}
 use Rattle.flexc.specs.Source.{IsShort}
-use Rattle.flexc.specs.Emitted.{each_from, fixed_names, fixed_strings, label_strings, namespaces, id_string, id_trait, building_trait, class_trait, plain_method, bindable, class_info, script_info, instance_of, instance_traits, script_code, constructor_code, building_code, body, bodies_of, pool_of, abc_of}
+use Rattle.flexc.specs.Emitted.{encode_all, each_from, fixed_names, fixed_strings, label_strings, namespaces, id_string, id_trait, building_trait, class_trait, plain_method, bindable, class_info, script_info, instance_of, instance_traits, script_code, constructor_code, building_code, body, bodies_of, pool_of, abc_of}
 use Rattle.flexc.proofs.Sizes.{Within, each_from-length, each_from-all}
 use Rattle.flexc.proofs.WrittenSize.{IsBrief, encode_all-within, building_code-within, instance_traits-length, instance_traits-all, names-length, names-all, strings-length, strings-brief, abc-within}
 
@@ -177,11 +176,11 @@ bodies-written count few =
     (body 0 2 1 script)
     (body 1 0 1 static)
     (body 2 1 1 constructor)
-    (body 3 4 2 (building_code count))
-    (body-written 0 2 1 55 script (omega arith) (omega arith) (omega arith) (encode_all-within script_code) (omega arith))
-    (body-written 1 0 1 11 static (omega arith) (omega arith) (omega arith) (encode_all-within (ReturnVoid ∷ [])) (omega arith))
-    (body-written 2 1 1 55 constructor (omega arith) (omega arith) (omega arith) (encode_all-within constructor_code) (omega arith))
-    (body-written 3 4 2 (154 * count + 11) (building_code count) (omega arith) (omega arith) (omega arith) (building_code-within count) (omega arith))
+    (body 3 4 2 (encode_all (building_code count)))
+    (body-written 0 2 1 105 script (omega arith) (omega arith) (omega arith) (encode_all-within script_code) (omega arith))
+    (body-written 1 0 1 21 static (omega arith) (omega arith) (omega arith) (encode_all-within (ReturnVoid ∷ [])) (omega arith))
+    (body-written 2 1 1 105 constructor (omega arith) (omega arith) (omega arith) (encode_all-within constructor_code) (omega arith))
+    (body-written 3 4 2 (294 * count + 21) (encode_all (building_code count)) (omega arith) (omega arith) (omega arith) (building_code-within count) (omega arith))
 
 -- the ABC of a document is of the forms that are read back
 pub abc_is_written : (labels : List Label) → length labels ≤ 100 → All IsShort labels → IsWritten (abc_of labels)

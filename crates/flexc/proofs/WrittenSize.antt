@@ -16,38 +16,26 @@ use Rattle.abc_format.specs.declared.records.Multiname.TheVariants.{QName}
 use Rattle.abc_format.specs.declared.records.Trait.{Trait}
 use Rattle.flexc.specs.declared.source.Label.{Label}
 use Rattle.flexc.specs.Source.{IsShort}
-use Rattle.flexc.specs.declared.instruction.Instruction.{Instruction}
-use Rattle.flexc.specs.declared.instruction.Instruction.TheVariants.{PushString, PushInt, ReturnVoid, ConstructSuper, ConstructProp, CallPropVoid, NewClass, FindPropStrict, GetLex, SetProperty, InitProperty, GetLocal0, GetLocal1, SetLocal1}
-use Rattle.flexc.specs.Code.{encode, encode_all}
-use Rattle.flexc.specs.Emitted.{each_from, id_name, id_trait, building_trait, class_trait, plain_method, bindable, class_info, script_info, instance_of, instance_traits, label_code, building_code, script_code, constructor_code, body, bodies_of, namespaces, id_string, fixed_names, fixed_strings, label_strings, main_text, pool_of, abc_of}
-use Rattle.flexc.proofs.Sizes.{Within, loosen, none, one, ◌⊕◌, u30-within, int-within, counted-within, table-within, empty-within, each_from-within, each_from-length, each_from-all}
-
--- an instruction has at most two operands
-pub encode-within : (i : Instruction) → Within 11 (encode i)
-encode-within (PushString string) = loosen (one 0x2C ⊕ u30-within string) (omega arith)
-encode-within (PushInt int) = loosen (one 0x2D ⊕ u30-within int) (omega arith)
-encode-within ReturnVoid = loosen (one 0x47) (omega arith)
-encode-within (ConstructSuper count) = loosen (one 0x49 ⊕ u30-within count) (omega arith)
-encode-within (ConstructProp name count) = loosen (one 0x4A ⊕ u30-within name ⊕ u30-within count) (omega arith)
-encode-within (CallPropVoid name count) = loosen (one 0x4F ⊕ u30-within name ⊕ u30-within count) (omega arith)
-encode-within (NewClass class) = loosen (one 0x58 ⊕ u30-within class) (omega arith)
-encode-within (FindPropStrict name) = loosen (one 0x5D ⊕ u30-within name) (omega arith)
-encode-within (GetLex name) = loosen (one 0x60 ⊕ u30-within name) (omega arith)
-encode-within (SetProperty name) = loosen (one 0x61 ⊕ u30-within name) (omega arith)
-encode-within (InitProperty name) = loosen (one 0x68 ⊕ u30-within name) (omega arith)
-encode-within GetLocal0 = loosen (one 0xD0) (omega arith)
-encode-within GetLocal1 = loosen (one 0xD1) (omega arith)
-encode-within SetLocal1 = loosen (one 0xD5) (omega arith)
+use Rattle.avm2_code.specs.declared.instruction.Instruction.{Instruction}
+use Rattle.avm2_code.specs.declared.instruction.Instruction.TheVariants.{ReturnVoid}
+use Rattle.avm2_code.specs.Writing.{encode}
+use Rattle.avm2_code.proofs.Sizes.{instruction-length}
+use Rattle.flexc.specs.Emitted.{encode_all, each_from, id_name, id_trait, building_trait, class_trait, plain_method, bindable, class_info, script_info, instance_of, instance_traits, label_code, building_code, script_code, constructor_code, body, bodies_of, namespaces, id_string, fixed_names, fixed_strings, label_strings, main_text, pool_of, abc_of}
+use Rattle.flexc.proofs.Sizes.{Within, loosen, none, one, ◌⊕◌, u30-within, int-within, counted-within, table-within, empty-within, each_from-long, each_from-length, each_from-all}
 
 -- so many instructions
-pub encode_all-within : (is : List Instruction) → Within (11 * length is) (encode_all is)
+pub encode_all-within : (is : List Instruction) → Within (21 * length is) (encode_all is)
 encode_all-within [] = none
-encode_all-within (i ∷ is) = loosen (encode-within i ⊕ encode_all-within is) (omega arith)
+encode_all-within (i ∷ is) =
+    let first : Within 21 (encode i) = record { within = instruction-length i } in
+    loosen (first ⊕ encode_all-within is) (omega arith)
 
 -- the code that builds so many Labels
-pub building_code-within : (count : ℕ) → Within (154 * count + 11) (building_code count)
-building_code-within count =
-    each_from-within (λ k. encode_all (label_code k)) 154 0 count (λ k. encode_all-within (label_code k)) ⊕ encode_all-within (ReturnVoid ∷ [])
+pub building_code-length : (count : ℕ) → length (building_code count) ≡ 14 * count + 1
+building_code-length count = let e = each_from-long label_code 14 0 count (λ k. refl) in omega (arith, e, length-append (each_from label_code 0 count) (ReturnVoid ∷ []))
+
+pub building_code-within : (count : ℕ) → Within (294 * count + 21) (encode_all (building_code count))
+building_code-within count = loosen (encode_all-within (building_code count)) (omega (arith, building_code-length count))
 
 -- the size of a method
 method-within : Within 16 (method_bytes plain_method)
@@ -114,12 +102,12 @@ body-within method max_stack local_count most code w =
     loosen h (omega arith)
 
 -- the size of all the bodies
-bodies-within : (count : ℕ) → count ≤ 100 → Within 16000 (counted body_bytes (bodies_of count))
+bodies-within : (count : ℕ) → count ≤ 100 → Within 30000 (counted body_bytes (bodies_of count))
 bodies-within count few =
-    let script = body-within 0 2 1 55 (encode_all script_code) (encode_all-within script_code) in
-    let static = body-within 1 0 1 11 (encode_all (ReturnVoid ∷ [])) (encode_all-within (ReturnVoid ∷ [])) in
-    let constructor = body-within 2 1 1 55 (encode_all constructor_code) (encode_all-within constructor_code) in
-    let building = body-within 3 4 2 (154 * count + 11) (building_code count) (building_code-within count) in
+    let script = body-within 0 2 1 105 (encode_all script_code) (encode_all-within script_code) in
+    let static = body-within 1 0 1 21 (encode_all (ReturnVoid ∷ [])) (encode_all-within (ReturnVoid ∷ [])) in
+    let constructor = body-within 2 1 1 105 (encode_all constructor_code) (encode_all-within constructor_code) in
+    let building = body-within 3 4 2 (294 * count + 21) (encode_all (building_code count)) (building_code-within count) in
     let h = u30-within 4 ⊕ (script ⊕ (static ⊕ (constructor ⊕ (building ⊕ none)))) in
     loosen h (omega arith)
 

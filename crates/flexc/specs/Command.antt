@@ -5,17 +5,17 @@ use Rattle.flex_base.specs.declared.outcome.Outcome.TheVariants.{Ended}
 use Rattle.flex_edge.specs.Outside.{Rose, FilesState, SinkState}
 use Rattle.flex_edge.specs.Calls.{SameCounts, SameOthers, Changes, SinkChanges}
 use Rattle.flexc.specs.declared.command.Status.{Status}
-use Rattle.flexc.specs.declared.input.ReadRefusal.{ReadRefusal}
-use Rattle.flexc.specs.declared.input.ReadRefusal.TheVariants as read
-use Rattle.flexc.specs.declared.output.WriteRefusal.{WriteRefusal}
-use Rattle.flexc.specs.declared.output.WriteRefusal.TheVariants as write
+use Rattle.flex_edge.specs.declared.input.ReadRefusal.{ReadRefusal}
+use Rattle.flex_edge.specs.declared.input.ReadRefusal.TheVariants as read
+use Rattle.flex_edge.specs.declared.output.WriteRefusal.{WriteRefusal}
+use Rattle.flex_edge.specs.declared.output.WriteRefusal.TheVariants as write
 use Rattle.flexc.specs.declared.source.Document.{Document}
 use Rattle.flexc.specs.Meaning.{source_trace}
 use Rattle.flexc.specs.PlaysAs.{PlaysAs}
-use Rattle.flexc.specs.Printed.{HasPlayed, Plays}
+use Rattle.script_player.specs.Printed.{HasPlayed, Plays}
 use Rattle.flexc.specs.Source.{HasDocument, IsNotBuilt}
-use Rattle.flexc.specs.Trace.{text, with_end}
-use Rattle.flexc.specs.Whole.{MakesNone, ReadsFile, WritesFile, Prints, HasTaken}
+use Rattle.script_player.specs.Trace.{text, with_end}
+use Rattle.flex_edge.specs.Whole.{MakesNone, ReadsFile, WritesFile, Prints, HasTaken}
 
 -- the number of turns of a play
 abbrev pub turns : ℕ

@@ -16,9 +16,13 @@ use Rattle.abc_format.specs.declared.records.MethodBody.{MethodBody}
 use Rattle.abc_format.specs.declared.records.Trait.{Trait}
 use Rattle.abc_format.specs.declared.records.TraitKind.TheVariants as trait_kind
 use Rattle.flexc.specs.declared.source.Label.{Label}
-use Rattle.flexc.specs.declared.instruction.Instruction.{Instruction}
-use Rattle.flexc.specs.declared.instruction.Instruction.TheVariants as instruction
-use Rattle.flexc.specs.Code.{encode_all}
+use Rattle.avm2_code.specs.declared.instruction.Instruction.{Instruction}
+use Rattle.avm2_code.specs.declared.instruction.Instruction.TheVariants as instruction
+use Rattle.avm2_code.specs.Writing.{encode}
+
+-- the bytes of instructions, one behind another
+abbrev pub encode_all : List Instruction → List ℕ
+encode_all is = flat_map encode is
 
 -- what f gives for each number from k on, so many of them
 abbrev pub each_from : {A : Type 0} → (ℕ → List A) → ℕ → ℕ → List A
@@ -118,8 +122,8 @@ label_code k =
     ∷ instruction.GetLocal0 ∷ instruction.GetLocal0 ∷ instruction.GetLocal1 ∷ instruction.PushInt (rank_int k) ∷ instruction.CallPropVoid 5 3 ∷ []
 
 -- builds the Labels one after another
-abbrev pub building_code : ℕ → List ℕ
-building_code count = each_from (λ k. encode_all (label_code k)) 0 count ++ encode_all (instruction.ReturnVoid ∷ [])
+abbrev pub building_code : ℕ → List Instruction
+building_code count = each_from label_code 0 count ++ instruction.ReturnVoid ∷ []
 
 abbrev pub body : ℕ → ℕ → ℕ → List ℕ → MethodBody
 body method max_stack local_count code =
@@ -128,7 +132,7 @@ body method max_stack local_count code =
 abbrev pub bodies_of : ℕ → List MethodBody
 bodies_of count =
     body 0 2 1 (encode_all script_code) ∷ body 1 0 1 (encode_all (instruction.ReturnVoid ∷ [])) ∷ body 2 1 1 (encode_all constructor_code)
-    ∷ body 3 4 2 (building_code count) ∷ []
+    ∷ body 3 4 2 (encode_all (building_code count)) ∷ []
 
 -- the ABC of a document with these Labels
 abbrev pub abc_of : List Label → Abc

@@ -3,11 +3,11 @@ use Rattle.std.specs.Prelude.{ℕ, List, [], ◌∷◌, length, map, codes}
 use Rattle.flex_base.specs.declared.outcome.Outcome.TheVariants.{Ended}
 use Rattle.flex_base.specs.declared.value.ObjId.{ObjId}
 use Rattle.flex_base.specs.declared.value.Value.TheVariants as value
-use Rattle.flexc.specs.declared.catalog.NativeClass.TheVariants as native
+use Rattle.avm2_machine.specs.declared.catalog.NativeClass.TheVariants as native
 use Rattle.flexc.specs.declared.source.Label.{Label}
 use Rattle.flexc.specs.declared.source.Document.{Document}
-use Rattle.flexc.specs.Script.{UserEvent}
-use Rattle.flexc.specs.Trace.{Story}
+use Rattle.script_player.specs.Script.{UserEvent}
+use Rattle.script_player.specs.Trace.{Story}
 use Rattle.flexc.specs.World.{Main, Native, Property, World, Result, Goes, Halts, bind, empty_world, activity, make, write, add}
 
 -- a new Label's properties

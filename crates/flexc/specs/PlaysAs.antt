@@ -2,10 +2,10 @@
 use Rattle.std.specs.Prelude.{◌≡◌, ℕ, List}
 use Rattle.flexc.specs.declared.source.Document.{Document}
 use Rattle.flexc.specs.Meaning.{source_trace}
-use Rattle.flexc.specs.Playable.{IsPlayable}
-use Rattle.flexc.specs.Playing.{HasTrace, NeverFaults}
-use Rattle.flexc.specs.Script.{UserEvent}
-use Rattle.flexc.specs.Trace.{Story}
+use Rattle.script_player.specs.Playable.{IsPlayable}
+use Rattle.script_player.specs.Playing.{HasTrace, NeverFaults}
+use Rattle.script_player.specs.Script.{UserEvent}
+use Rattle.script_player.specs.Trace.{Story}
 
 -- under every script and with every number of turns the file has the trace that the source means, has no other, and meets no fault
 pub record PlaysAs (bytes : List ℕ) (document : Document) : Type 0 where

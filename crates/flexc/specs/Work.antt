@@ -7,14 +7,14 @@ use Rattle.flex_edge.specs.Calls.{SameCounts, Changes}
 use Rattle.flexc.specs.declared.command.Failure.{Failure}
 use Rattle.flexc.specs.declared.command.Failure.TheVariants as failure
 use Rattle.flexc.specs.declared.command.Status.{Status}
-use Rattle.flexc.specs.declared.input.ReadRefusal.{ReadRefusal}
-use Rattle.flexc.specs.declared.input.ReadRefusal.TheVariants as read
-use Rattle.flexc.specs.declared.output.WriteRefusal.TheVariants as write
+use Rattle.flex_edge.specs.declared.input.ReadRefusal.{ReadRefusal}
+use Rattle.flex_edge.specs.declared.input.ReadRefusal.TheVariants as read
+use Rattle.flex_edge.specs.declared.output.WriteRefusal.TheVariants as write
 use Rattle.flexc.specs.declared.source.Document.{Document}
 use Rattle.flexc.specs.Command.{turns, status, AreWords, IsNoCommand, HasRead, FailsToRead, HasBuilt, HasWrittenFile, Says, HasNoMemory}
-use Rattle.flexc.specs.Printed.{HasPlayed, Plays}
+use Rattle.script_player.specs.Printed.{HasPlayed, Plays}
 use Rattle.flexc.specs.Source.{HasDocument, IsNotBuilt}
-use Rattle.flexc.specs.Whole.{MakesNone}
+use Rattle.flex_edge.specs.Whole.{MakesNone}
 
 -- why a file wasn't read, in the words of the command
 abbrev pub read_failure : ReadRefusal → Bor (List ℕ) → Failure

@@ -9,7 +9,7 @@ use Rattle.flex_base.specs.declared.record.TraceItem.{TraceItem}
 use Rattle.flex_base.specs.declared.record.TraceItem.TheVariants.{Made, Written, Added}
 use Rattle.flex_base.specs.declared.value.ObjId.{ObjId}
 use Rattle.flex_base.specs.declared.value.Value.{Value}
-use Rattle.flexc.specs.declared.catalog.NativeClass.{NativeClass}
+use Rattle.avm2_machine.specs.declared.catalog.NativeClass.{NativeClass}
 
 -- what an object is: one of the main source, or of a native class
 pub data Kind : Type 0 where

@@ -8,18 +8,16 @@ ghost use Rattle.flexc.specs.Command.{Course, HasPrintedTrace, RunsWhole, RunsIn
 ghost use Rattle.flexc.specs.Emitted.{abc_of, main_text};
 ghost use Rattle.flexc.specs.PlaysAs.{PlaysAs};
 ghost use Rattle.flexc.specs.Source.{IsSmall};
-ghost use Rattle.flexc.specs.Whole.{Prints};
+ghost use Rattle.flex_edge.specs.Whole.{Prints};
 ghost use Rattle.flexc.specs.Work.{ReadsDocument, Reports, Works, read_failure};
 
 use crate::emit::{MAIN, emit};
-use crate::input::{ReadRefusal, read_file};
-use crate::output::{WriteRefusal, print, write_file};
-use crate::play::play;
 use crate::source::{Document, SourceRefusal, read_source};
 use crate::words::{Run, read_words};
 use abc_format::write_abc;
 use flex_base::{Bytes, NoMemory, Outcome, Text};
-use flex_edge::{Files, Observer, Sink};
+use flex_edge::{Files, Observer, ReadRefusal, Sink, WriteRefusal, print, read_file, write_file};
+use script_player::play;
 use std::alloc::Global;
 use swf_tags::write_swf;
 

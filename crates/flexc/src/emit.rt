@@ -1,15 +1,18 @@
 // The ABC of a document: its class, with one method for each activity.
 
-ghost use Rattle.std.specs.Prelude.{◌≡◌, ◌≤◌, ◌<◌, ◌++◌, ◌∷◌, [], length, pos, IfOk, OnOk};
+ghost use Rattle.std.specs.Prelude.{◌≡◌, ◌≤◌, ◌<◌, ◌++◌, ◌∷◌, [], length, map, pos, IfOk, OnOk, All};
 ghost use Rattle.std.specs.List.{flat_map};
-ghost use Rattle.flexc.specs.Emitted.{each_from, fixed_strings, label_strings, id_string, text_string, id_name, rank_int, fixed_names, namespaces, pool_of, plain_method, bindable, id_trait, building_trait, instance_traits, instance_of, class_info, script_info, label_code, building_code, body, bodies_of, abc_of};
+ghost use Rattle.avm2_code.specs.Assembly.{FitsForm};
+ghost use Rattle.avm2_code.specs.Table.{operands};
+ghost use Rattle.avm2_code.specs.declared.parts.Part.{Part};
+ghost use Rattle.flexc.specs.Emitted.{encode_all, each_from, fixed_strings, label_strings, id_string, text_string, id_name, rank_int, fixed_names, namespaces, pool_of, plain_method, bindable, id_trait, building_trait, instance_traits, instance_of, class_info, script_info, label_code, building_code, body, bodies_of, abc_of};
 
-use crate::instruction::{Instruction, assemble, put, put_all};
 use crate::source::{Document, Label};
 use abc_format::{
     Abc, ClassInfo, ConstantPool, InstanceInfo, MetadataInfo, MethodBody, MethodInfo, Multiname,
     Namespace, NamespaceKind, ScriptInfo, Trait, TraitKind,
 };
+use avm2_code::{Instruction, Part, Parts, assemble};
 use flex_base::{Bytes, NoMemory, Sequence, Text};
 use std::alloc::Global;
 
@@ -415,16 +418,46 @@ fn label_code(label: u32) -> [Instruction; 14]
 
 // Builds the Labels one after another.
 #[tactic(auto, using(crate::proofs::Each::numbers))]
-fn building_code(alloc: Global, count: u32) -> Result<Bytes, NoMemory>
+fn building_code(alloc: Global, count: u32) -> Result<Sequence<Instruction>, NoMemory>
     requires { count ≤ 100 }
     ensures { IfOk result (λ code. code ≡ building_code count) }
 {
-    let mut code = Bytes::new(alloc);
+    let mut code = Sequence::new(alloc);
     for label in 0..count {
         put_all(&mut code, &label_code(label))?;
     }
-    put(&mut code, Instruction::ReturnVoid)?;
+    code.push(Instruction::ReturnVoid)?;
     Ok(code)
+}
+
+fn put_all(code: &mut Sequence<Instruction>, instructions: &[Instruction]) -> Result<(), NoMemory>
+    ensures { OnOk result (code.new ≡ code.old ++ instructions.now) }
+{
+    for instruction in instructions {
+        code.push(*instruction)?;
+    }
+    Ok(())
+}
+
+// The bytes of code without branches.
+fn assembled(alloc: Global, instructions: &[Instruction]) -> Result<Bytes, NoMemory>
+    requires fits { All (λ i. All FitsForm (operands i)) instructions.now }
+    requires few { length instructions.now < 100000 }
+    ensures { IfOk result (λ code. code ≡ encode_all instructions.now) }
+{
+    let parts = plain_parts(alloc, instructions)?;
+    let marks = Sequence::new(alloc);
+    assemble(alloc, &Parts { parts, marks })
+}
+
+fn plain_parts(alloc: Global, instructions: &[Instruction]) -> Result<Sequence<Part>, NoMemory>
+    ensures { IfOk result (λ parts. parts ≡ map Part.Plain instructions.now) }
+{
+    let mut parts = Sequence::new(alloc);
+    for instruction in instructions {
+        parts.push(Part::Plain(*instruction))?;
+    }
+    Ok(parts)
 }
 
 fn method_bodies(alloc: Global, count: u32) -> Result<Sequence<MethodBody>, NoMemory>
@@ -432,13 +465,14 @@ fn method_bodies(alloc: Global, count: u32) -> Result<Sequence<MethodBody>, NoMe
     ensures { IfOk result (λ bodies. bodies ≡ bodies_of count) }
 {
     let mut bodies = Sequence::new(alloc);
-    let script_initialiser = assemble(alloc, &SCRIPT_INITIALISER_CODE)?;
+    let script_initialiser = assembled(alloc, &SCRIPT_INITIALISER_CODE)?;
     bodies.push(body(alloc, SCRIPT_INITIALISER, 2, 1, script_initialiser))?;
-    let class_initialiser = assemble(alloc, &CLASS_INITIALISER_CODE)?;
+    let class_initialiser = assembled(alloc, &CLASS_INITIALISER_CODE)?;
     bodies.push(body(alloc, CLASS_INITIALISER, 0, 1, class_initialiser))?;
-    let constructor = assemble(alloc, &CONSTRUCTOR_CODE)?;
+    let constructor = assembled(alloc, &CONSTRUCTOR_CODE)?;
     bodies.push(body(alloc, CONSTRUCTOR, 1, 1, constructor))?;
     let building = building_code(alloc, count)?;
+    let building = assembled(alloc, building.as_slice())?;
     bodies.push(body(alloc, BUILDING, 4, 2, building))?;
     Ok(bodies)
 }

@@ -1,23 +1,9 @@
 //! flexc: the compiler and headless player for Apache Flex MXML components.
 #![tactic(auto)]
 
-mod abc_reader;
-mod catalog;
 mod command;
 mod emit;
-mod execute;
-mod frame;
-mod input;
-mod instruction;
-mod machine;
-mod names;
-mod output;
-mod play;
 mod source;
-mod stack;
-mod stage;
-mod swf_reader;
-mod tables;
 #[cfg(test)]
 mod tests;
 mod words;

@@ -1,10 +1,10 @@
 use Rattle.std.proofs.Common.{rules, Ok, Err, refl}
 use Rattle.flexc.specs.Command.{turns, texts, AreWords, HasBuilt, Writing, Playing}
 use Rattle.flexc.specs.PlaysAs.{PlaysAs}
-use Rattle.flexc.specs.Printed.{HasPlayed, Plays}
-use Rattle.flexc.specs.Whole.{WritesFile}
+use Rattle.script_player.specs.Printed.{HasPlayed, Plays}
+use Rattle.flex_edge.specs.Whole.{WritesFile}
 use Rattle.flexc.specs.Work.{HasNoDocument}
-use Rattle.flexc.specs.declared.output.WriteRefusal.TheVariants as write
+use Rattle.flex_edge.specs.declared.output.WriteRefusal.TheVariants as write
 use Rattle.flexc.proofs.Works.{nothing_to_play, built_early, written_file}
 use Rattle.flexc.proofs.command.build_and_play.Goals as goal
 

@@ -1,5 +1,5 @@
 use Rattle.std.proofs.Common.{rules, ◌≡◌, ◌∷◌, [], Ok, Err}
-use Rattle.flexc.specs.Whole.{Prints}
+use Rattle.flex_edge.specs.Whole.{Prints}
 use Rattle.flexc.proofs.Says.{prints_then, prints_stop}
 use Rattle.flexc.proofs.command.print_pieces.Goals as goal
 

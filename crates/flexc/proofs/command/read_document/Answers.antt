@@ -1,6 +1,6 @@
 use Rattle.std.proofs.Common.{rules, ◌≡◌, Ok, Err, refl, subst}
 use Rattle.flexc.specs.Source.{IsNotBuilt}
-use Rattle.flexc.specs.Whole.{ReadsFile}
+use Rattle.flex_edge.specs.Whole.{ReadsFile}
 use Rattle.flexc.specs.Work.{read_failure}
 use Rattle.flexc.proofs.Works.{script_unread, is_refused}
 use Rattle.flexc.proofs.command.read_document.Goals as goal

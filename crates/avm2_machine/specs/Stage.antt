@@ -1,0 +1,140 @@
+-- The objects of a play, and what is done with them.
+use Rattle.std.specs.Prelude.{ℕ, zero, suc, ◌+◌, List, [], ◌∷◌, ◌++◌, length, Bool, true, false, if◌then◌else◌, nat_lt, ◌==◌, Option, Some, None, Result, Ok, Err, ◌≡◌, slice_get, codes}
+use Rattle.std.specs.Str.{bytes_eq}
+use Rattle.flex_base.specs.declared.memory.NoMemory.{NoMemory}
+use Rattle.flex_base.specs.declared.outcome.RunRefusal.{RunRefusal}
+use Rattle.flex_base.specs.declared.outcome.RunRefusal.TheVariants as refusal
+use Rattle.flex_base.specs.declared.outcome.Stop.TheVariants as stop
+use Rattle.flex_base.specs.declared.value.ObjId.{ObjId}
+use Rattle.flex_base.specs.declared.value.Value.{Value}
+use Rattle.flex_base.specs.declared.value.Value.TheVariants as value
+use Rattle.avm2_machine.specs.declared.catalog.NativeClass.{NativeClass}
+use Rattle.avm2_machine.specs.declared.catalog.NativeClass.TheVariants as native
+use Rattle.avm2_machine.specs.declared.stage.Class.{Class}
+use Rattle.avm2_machine.specs.declared.stage.Class.TheVariants as class
+use Rattle.avm2_machine.specs.declared.stage.PropertyType.{PropertyType}
+use Rattle.avm2_machine.specs.declared.stage.PropertyType.TheVariants as type
+use Rattle.avm2_machine.specs.declared.stage.Slot.{Slot}
+use Rattle.avm2_machine.specs.declared.stage.Object.{Object}
+use Rattle.avm2_machine.specs.declared.stage.Stage.{Stage}
+
+-- a stage without objects
+abbrev pub empty_stage : Stage
+empty_stage = record { objects = []; cells = 0 }
+
+abbrev pub same_native : NativeClass → NativeClass → Bool
+same_native native.Application native.Application = true
+same_native native.Label native.Label = true
+same_native _ _ = false
+
+abbrev pub same_class : Class → Class → Bool
+same_class (class.File a) (class.File b) = a == b
+same_class (class.Native a) (class.Native b) = same_native a b
+same_class _ _ = false
+
+-- what an object costs of whose class so many properties are declared
+abbrev pub cost : ℕ → ℕ
+cost declared = 16 + declared
+
+-- whether the cells don't hold out for an object
+abbrev pub too_many_cells : ℕ → Stage → Bool
+too_many_cells declared s = nat_lt 1000000 (s.cells + cost declared)
+
+-- the number of the next object
+abbrev pub next_object : Stage → ObjId
+next_object s = record { 0 = suc (length s.objects) }
+
+-- with one object more
+abbrev pub with_object : Class → List Slot → ℕ → Stage → Stage
+with_object class slots declared s =
+    record { objects = s.objects ++ record { class = class; slots = slots; children = [] } ∷ []; cells = s.cells + cost declared }
+
+-- the object of a number, which counts from 1
+abbrev pub numbered : List Object → ℕ → Option Object
+numbered objects zero = None
+numbered objects (suc n) = slice_get objects n
+
+abbrev pub object_at : Stage → ObjId → Option Object
+object_at s o = numbered s.objects o.0
+
+abbrev pub one_later : Option ℕ → Option ℕ
+one_later None = None
+one_later (Some n) = Some (suc n)
+
+-- the place of the first property of a name
+abbrev pub place_of : List ℕ → List Slot → Option ℕ
+place_of name [] = None
+place_of name (s ∷ slots) = if bytes_eq s.name name then Some 0 else one_later (place_of name slots)
+
+-- the property of a name
+abbrev pub slot_named : List ℕ → List Slot → Option Slot
+slot_named name [] = None
+slot_named name (s ∷ slots) = if bytes_eq s.name name then Some s else slot_named name slots
+
+abbrev pub slot_of : List ℕ → Option Object → Option Slot
+slot_of name None = None
+slot_of name (Some object) = slot_named name object.slots
+
+abbrev pub property : Stage → ObjId → List ℕ → Option Slot
+property s o name = slot_of name (object_at s o)
+
+-- the properties with a new value under a name
+abbrev pub with_value : List ℕ → Value → List Slot → List Slot
+with_value name v [] = []
+with_value name v (s ∷ slots) = if bytes_eq s.name name then record s { value = v } ∷ slots else s ∷ with_value name v slots
+
+-- the objects with one of them changed
+abbrev pub changed_at : (Object → Object) → List Object → ℕ → List Object
+changed_at f [] n = []
+changed_at f (o ∷ objects) zero = f o ∷ objects
+changed_at f (o ∷ objects) (suc n) = o ∷ changed_at f objects n
+
+abbrev pub changed_number : (Object → Object) → List Object → ℕ → List Object
+changed_number f objects zero = objects
+changed_number f objects (suc n) = changed_at f objects n
+
+abbrev pub with_property : ObjId → List ℕ → Value → Stage → Stage
+with_property o name v s = record s { objects = changed_number (λ object. record object { slots = with_value name v object.slots }) s.objects o.0 }
+
+abbrev pub with_child : ObjId → ObjId → Stage → Stage
+with_child container child s = record s { objects = changed_number (λ object. record object { children = object.children ++ child ∷ [] }) s.objects container.0 }
+
+-- whether a value is of a type, as far as the emitted code needs it
+abbrev pub has_class : Class → Option Object → Bool
+has_class c None = false
+has_class c (Some object) = same_class object.class c
+
+abbrev pub is_of : Stage → Value → PropertyType → Bool
+is_of s (value.Text text) type.Text = true
+is_of s (value.Ref o) (type.Instance c) = has_class c (object_at s o)
+is_of s _ _ = false
+
+-- the properties of a new object of a native class
+abbrev pub native_slots : NativeClass → List Slot
+native_slots native.Application = []
+native_slots native.Label = record { name = codes "text"; kind = type.Text; value = value.Text [] } ∷ []
+
+abbrev pub children_of : Option Object → Option (List ObjId)
+children_of None = None
+children_of (Some object) = Some object.children
+
+-- what the making of an object answers, and what it leaves
+abbrev pub MakesObject : Stage → Class → List Slot → ℕ → Result ObjId RunRefusal → Stage → Type 0
+MakesObject old c slots declared (Ok o) new = (too_many_cells declared old ≡ false) × (o ≡ next_object old) × (new ≡ with_object c slots declared old)
+MakesObject old c slots declared (Err (refusal.Stop cause)) new = (too_many_cells declared old ≡ true) × (cause ≡ stop.Cells) × (new ≡ old)
+MakesObject old c slots declared (Err refusal.NoMemory) new = Unit {0}
+
+-- the place of the next child, if it has a number
+abbrev pub next_place : Option (List ObjId) → Option ℕ
+next_place None = None
+next_place (Some children) = if nat_lt (length children) 4294967296 then Some (length children) else None
+
+abbrev pub added : Option ℕ → ObjId → ObjId → Stage → Stage
+added None container child s = s
+added (Some place) container child s = with_child container child s
+
+-- what the adding of a child answers, and what it leaves
+abbrev pub Places : Stage → ObjId → ObjId → Result (Option ℕ) NoMemory → Stage → Type 0
+Places old container child (Ok place) new =
+    (place ≡ next_place (children_of (object_at old container))) × (new ≡ added place container child old)
+Places old container child (Err e) new = Unit {0}

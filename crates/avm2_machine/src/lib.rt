@@ -1,0 +1,17 @@
+//! The machine that plays an ABC, as far as the emitted code needs it.
+#![tactic(auto)]
+
+mod catalog;
+mod execute;
+mod frame;
+mod machine;
+mod names;
+mod stack;
+mod stage;
+mod tables;
+
+pub use catalog::NativeClass;
+pub use frame::{CodeFrame, Operand};
+pub use machine::{Load, Machine};
+pub use stack::Stack;
+pub use stage::{Class, Object, PropertyType, Slot, Stage};

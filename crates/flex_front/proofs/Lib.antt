@@ -1,0 +1,4 @@
+pub mod Marks
+pub mod Elements
+pub mod Lists
+pub mod Documents

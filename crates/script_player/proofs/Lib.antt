@@ -1,0 +1,12 @@
+pub mod AbcNumbers
+pub mod AbcRead
+pub mod AbcRelated
+pub mod Ends
+pub mod Files
+pub mod Lists
+pub mod Played
+pub mod Shown
+pub mod SwfRead
+pub mod SwfReadBack
+pub mod Tags
+pub mod Texts

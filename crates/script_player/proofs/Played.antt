@@ -1,0 +1,110 @@
+-- What was printed of a play.
+use Rattle.std.proofs.Common.{◌≡◌, ℕ, List, [], ◌++◌, None, Some, Ok, Err, Result, refl, sym, ap, ◌∙◌, subst, append_assoc}
+use Rattle.std.proofs.lemmas.List.{append-nil}
+use Rattle.abc_format.specs.declared.records.Abc.{Abc}
+use Rattle.flex_base.specs.Line.{outcome_line}
+use Rattle.flex_base.specs.declared.outcome.Outcome.{Outcome}
+use Rattle.flex_edge.specs.Outside.{Rose, SinkState}
+use Rattle.avm2_machine.specs.declared.machine.Machine.{Machine}
+use Rattle.flex_edge.specs.declared.output.WriteRefusal.{WriteRefusal}
+use Rattle.flex_edge.specs.declared.output.WriteRefusal.TheVariants as write
+use Rattle.script_player.specs.AbcReader.{read_abc}
+use Rattle.script_player.specs.Playable.{IsPlayable}
+use Rattle.script_player.specs.Playing.{boot, ComesTo, HasTrace}
+use Rattle.script_player.specs.Printed.{HasShown, Shows, HasPrinted, PrintsText, Plays}
+use Rattle.script_player.specs.SwfReader.{read_swf}
+use Rattle.script_player.specs.Trace.{Story, lines, text, with_end}
+use Rattle.flex_edge.specs.Whole.{HasTaken, Prints}
+use Rattle.script_player.proofs.Ends.{one_story}
+use Rattle.script_player.proofs.Files.{file_is_read, program_is_read, comes_alike}
+
+-- memory was refused before anything was printed
+pub nothing_printed : (P : Story → Type 0) (old : SinkState) → PrintsText P old (Err write.NoMemory) old
+nothing_printed P old = record {
+  tells = refl;
+  faults = refl;
+  told = λ t story trace. record { part = []; left = text story; whole = refl; taken = sym (append-nil old.taken) };
+}
+
+-- the same stories in other words
+printed_alike : (P Q : Story → Type 0) (old new : SinkState) (result : Result Outcome WriteRefusal) → ((story : Story) → P story → Q story) → ((story : Story) → Q story → P story)
+    → PrintsText P old result new → PrintsText Q old result new
+printed_alike P Q old new (Ok outcome) to from s = record { story = s.story; is = s.is; trace = to s.story s.trace; printed = s.printed }
+printed_alike P Q old new (Err write.Failed) to from s = record { tells = s.tells; faults = s.faults; told = λ t story trace. s.told t story (from story trace) }
+printed_alike P Q old new (Err write.NoMemory) to from s = record { tells = s.tells; faults = s.faults; told = λ t story trace. s.told t story (from story trace) }
+
+module _ (abc : Abc) (main : List ℕ) (from : Machine) where
+  -- the records weren't all printed
+  pub part_printed : (refusal : WriteRefusal) (old new : SinkState) → Shows abc main from old (Err refusal) new → PrintsText (ComesTo abc main [] from) old (Err refusal) new
+  part_printed write.Failed old new s = s
+  part_printed write.NoMemory old new s = s
+
+  -- the line of the outcome was printed too
+  pub whole_printed : (outcome : Outcome) (old mid new : SinkState) → HasShown abc main from outcome old mid → Prints mid (with_end (outcome_line outcome)) (Ok tt) new
+      → HasPrinted (ComesTo abc main [] from) outcome old new
+  whole_printed outcome old mid new s p = record {
+    story = s.story;
+    is = s.is;
+    trace = s.comes;
+    printed = record {
+      tells = p.tells ∙ s.printed.tells;
+      faults = p.faults ∙ s.printed.faults;
+      told = λ t.
+          p.told (s.printed.tells ∙ t) ∙ ap (λ l. l ++ with_end (outcome_line outcome)) (s.printed.told t) ∙ append_assoc old.taken (lines s.story.records) (with_end (outcome_line outcome))
+          ∙ ap (λ o. old.taken ++ (lines s.story.records ++ with_end (outcome_line o))) (sym s.is);
+    };
+  }
+
+  -- a first part of the line of the outcome is the end of a first part of the text
+  line_part : (outcome : Outcome) (old mid new : SinkState) (s : HasShown abc main from outcome old mid) → (mid.taken ≡ old.taken ++ lines s.story.records)
+      → HasTaken (with_end (outcome_line outcome)) mid new → (story : Story) → ComesTo abc main [] from story → HasTaken (text story) old new
+  line_part outcome old mid new s before taken story comes =
+      subst (λ x. HasTaken (text x) old new) (one_story abc main [] from s.story story s.comes comes)
+      (record {
+        part = lines s.story.records ++ taken.part;
+        left = taken.left;
+        whole = ap (λ o. lines s.story.records ++ with_end (outcome_line o)) s.is ∙ ap (λ l. lines s.story.records ++ l) taken.whole ∙ sym (append_assoc (lines s.story.records) taken.part taken.left);
+        taken = taken.taken ∙ ap (λ l. l ++ taken.part) before ∙ append_assoc old.taken (lines s.story.records) taken.part;
+      })
+
+  pub end_printed : (refusal : WriteRefusal) (outcome : Outcome) (old mid new : SinkState) → HasShown abc main from outcome old mid
+      → Prints mid (with_end (outcome_line outcome)) (Err refusal) new → PrintsText (ComesTo abc main [] from) old (Err refusal) new
+  end_printed write.Failed outcome old mid new s p = record {
+    tells = p.tells ∙ s.printed.tells;
+    faults = subst (λ n. Rose n new.write_faults) s.printed.faults p.faults;
+    told = λ t. line_part outcome old mid new s (s.printed.told t) (p.told (s.printed.tells ∙ t));
+  }
+  end_printed write.NoMemory outcome old mid new s p = record {
+    tells = p.tells ∙ s.printed.tells;
+    faults = p.faults ∙ s.printed.faults;
+    told = λ t. line_part outcome old mid new s (s.printed.told t) (p.told (s.printed.tells ∙ t));
+  }
+
+none_is : {A : Type 0} (a : A) → Some a ≡ None → ⊥
+none_is a e = cc
+
+some_is : {A : Type 0} (a b : A) → Some a ≡ Some b → a ≡ b
+some_is a b e = cc
+
+module _ (swf : List ℕ) (f : IsPlayable swf) where
+  pub file_is_there : read_swf swf ≡ None → ⊥
+  file_is_there none = none_is _ (sym (file_is_read swf f) ∙ none)
+
+  module _ (main code : List ℕ) (file : read_swf swf ≡ Some (record { main = main; abc = code })) where
+    code_is : f.code ≡ code
+    code_is = ap (λ p. p.abc) (some_is _ _ (sym (file_is_read swf f) ∙ file))
+
+    main_is : f.main ≡ main
+    main_is = ap (λ p. p.main) (some_is _ _ (sym (file_is_read swf f) ∙ file))
+
+    pub program_is_there : read_abc code ≡ None → ⊥
+    program_is_there none = none_is _ (sym (program_is_read swf f) ∙ ap read_abc code_is ∙ none)
+
+    -- what was read of the file was played
+    pub file_played : (abc : Abc) (turns : ℕ) (result : Result Outcome WriteRefusal) (old new : SinkState) → read_abc code ≡ Some abc
+        → PrintsText (ComesTo abc main [] (boot abc turns)) old result new → Plays swf turns old result new
+    file_played abc turns result old new program =
+        let abc_is : f.abc ≡ abc = some_is _ _ (sym (program_is_read swf f) ∙ ap read_abc code_is ∙ program) in
+        printed_alike (ComesTo abc main [] (boot abc turns)) (HasTrace swf [] turns) old new result
+        (λ story c. record { file = f; comes = subst (λ a. ComesTo a f.main [] (boot a turns) story) (sym abc_is) (subst (λ m. ComesTo abc m [] (boot abc turns) story) (sym main_is) c) })
+        (λ story t. subst (λ a. ComesTo a main [] (boot a turns) story) abc_is (subst (λ m. ComesTo f.abc m [] (boot f.abc turns) story) main_is (comes_alike swf [] turns story t.file f t.comes)))

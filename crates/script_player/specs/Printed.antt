@@ -1,0 +1,55 @@
+-- What a play prints.
+use Rattle.std.specs.Prelude.{◌≡◌, ℕ, List, [], ◌++◌, Option, Some, None, Result, Ok, Err}
+use Rattle.abc_format.specs.declared.records.Abc.{Abc}
+use Rattle.flex_base.specs.declared.outcome.Outcome.{Outcome}
+use Rattle.flex_base.specs.declared.record.TraceItem.{TraceItem}
+use Rattle.flex_edge.specs.Outside.{Rose, SinkState}
+use Rattle.flex_edge.specs.Calls.{SinkChanges}
+use Rattle.avm2_machine.specs.declared.machine.Machine.{Machine}
+use Rattle.flex_edge.specs.declared.output.WriteRefusal.{WriteRefusal}
+use Rattle.flex_edge.specs.declared.output.WriteRefusal.TheVariants as write
+use Rattle.script_player.specs.Playing.{ComesTo, HasTrace}
+use Rattle.script_player.specs.Trace.{Story, record_line, lines, text}
+use Rattle.flex_edge.specs.Whole.{HasTaken}
+
+-- the line of the record that a step made, if any
+abbrev pub item_lines : Option TraceItem → List ℕ
+item_lines None = []
+item_lines (Some item) = record_line item
+
+-- the play from a machine on came to its end, and a line for each record was printed
+pub record HasShown (abc : Abc) (main : List ℕ) (from : Machine) (outcome : Outcome) (old new : SinkState) : Type 0 where
+  pub story : Story
+  pub is : story.outcome ≡ outcome
+  pub comes : ComesTo abc main [] from story
+  pub printed : SinkChanges old new (new.write_faults ≡ old.write_faults) (new.taken ≡ old.taken ++ lines story.records)
+
+-- what the play from a machine on prints, before the line of its outcome; after a refusal a first part of the text
+abbrev pub Shows : Abc → List ℕ → Machine → SinkState → Result Outcome WriteRefusal → SinkState → Type 0
+Shows abc main from old (Ok outcome) new = HasShown abc main from outcome old new
+Shows abc main from old (Err write.Failed) new =
+    SinkChanges old new (Rose old.write_faults new.write_faults) ((story : Story) → ComesTo abc main [] from story → HasTaken (text story) old new)
+Shows abc main from old (Err write.NoMemory) new =
+    SinkChanges old new (new.write_faults ≡ old.write_faults) ((story : Story) → ComesTo abc main [] from story → HasTaken (text story) old new)
+
+-- the text of such a story was printed whole
+pub record HasPrinted (P : Story → Type 0) (outcome : Outcome) (old new : SinkState) : Type 0 where
+  pub story : Story
+  pub is : story.outcome ≡ outcome
+  pub trace : P story
+  pub printed : SinkChanges old new (new.write_faults ≡ old.write_faults) (new.taken ≡ old.taken ++ text story)
+
+-- what the printing of such a story does; after a refusal a first part of its text was printed
+abbrev pub PrintsText : (Story → Type 0) → SinkState → Result Outcome WriteRefusal → SinkState → Type 0
+PrintsText P old (Ok outcome) new = HasPrinted P outcome old new
+PrintsText P old (Err write.Failed) new =
+    SinkChanges old new (Rose old.write_faults new.write_faults) ((story : Story) → P story → HasTaken (text story) old new)
+PrintsText P old (Err write.NoMemory) new =
+    SinkChanges old new (new.write_faults ≡ old.write_faults) ((story : Story) → P story → HasTaken (text story) old new)
+
+-- what the play of the bytes with so many turns and an empty script prints
+abbrev pub HasPlayed : List ℕ → ℕ → Outcome → SinkState → SinkState → Type 0
+HasPlayed swf turns outcome old new = HasPrinted (HasTrace swf [] turns) outcome old new
+
+abbrev pub Plays : List ℕ → ℕ → SinkState → Result Outcome WriteRefusal → SinkState → Type 0
+Plays swf turns old result new = PrintsText (HasTrace swf [] turns) old result new

@@ -1,0 +1,109 @@
+// The playing of a SWF file.
+
+ghost use Rattle.std.specs.Prelude.{◌≡◌, ◌<◌, [], None, OnOk};
+ghost use Rattle.avm2_machine.specs.Machine.{result_of, step};
+ghost use Rattle.avm2_machine.specs.Progress.{remaining};
+ghost use Rattle.script_player.specs.Playable.{IsPlayable};
+ghost use Rattle.script_player.specs.Playing.{ComesTo, boot};
+ghost use Rattle.script_player.specs.Printed.{Plays, PrintsText, Shows, item_lines};
+ghost use Rattle.script_player.specs.Trace.{record_line, with_end};
+ghost use Rattle.flex_edge.specs.Whole.{Prints};
+
+use crate::abc_reader::{ReadFault, read_abc};
+use crate::swf_reader::read_swf;
+use abc_format::Abc;
+use avm2_machine::Machine;
+use flex_base::{Bytes, Outcome, Text, TraceItem, line_of};
+use flex_edge::{Sink, WriteRefusal, print};
+use std::alloc::Global;
+
+/// Plays a SWF file with so many turns and an empty script, and prints the trace.
+pub fn play<O: Sink>(
+    alloc: Global,
+    swf: &[u8],
+    turns: u32,
+    out: &mut O,
+) -> Result<Outcome, WriteRefusal>
+    requires { IsPlayable swf.now }
+    ensures { Plays swf.now turns (O.state out.old) result (O.state out.new) }
+{
+    let Some(parts) = read_swf(swf) else {
+        unreachable!();
+    };
+    match read_abc(alloc, parts.abc) {
+        Ok(abc) => play_program(alloc, &abc, parts.main, turns, out),
+        Err(ReadFault::Bad) => unreachable!(),
+        Err(ReadFault::NoMemory) => Err(WriteRefusal::NoMemory),
+    }
+}
+
+// Plays a program whose main class has this name.
+fn play_program<O: Sink>(
+    alloc: Global,
+    abc: &Abc,
+    main: &str,
+    turns: u32,
+    out: &mut O,
+) -> Result<Outcome, WriteRefusal>
+    ensures { PrintsText (ComesTo abc.now main.now [] (boot abc.now turns)) (O.state out.old) result (O.state out.new) }
+{
+    let main = Text::make(alloc, main)?;
+    let mut machine = Machine::load(alloc, abc.classes.len(), turns)?;
+    let outcome = run(alloc, abc, &main, &mut machine, out)?;
+    print_line(alloc, outcome.line().as_bytes(), out)?;
+    Ok(outcome)
+}
+
+// Steps until the play is over, and prints the records.
+fn run<O: Sink>(
+    alloc: Global,
+    abc: &Abc,
+    main: &Text,
+    machine: &mut Machine,
+    out: &mut O,
+) -> Result<Outcome, WriteRefusal>
+    ensures { Shows abc.now main.now machine.old (O.state out.old) result (O.state out.new) }
+{
+    loop {
+        if let Some(outcome) = machine.result() {
+            return Ok(outcome);
+        }
+        advance(alloc, abc, main, machine, out)?;
+    }
+}
+
+// One step, whose record is printed, if it makes one.
+fn advance<O: Sink>(
+    alloc: Global,
+    abc: &Abc,
+    main: &Text,
+    machine: &mut Machine,
+    out: &mut O,
+) -> Result<(), WriteRefusal>
+    ensures moved { OnOk result (machine.new ≡ (step abc.now main.now machine.old).machine) }
+    ensures lowers { OnOk result (result_of machine.old ≡ None → remaining abc.now machine.new < remaining abc.now machine.old) }
+    ensures printed { Prints (O.state out.old) (item_lines (step abc.now main.now machine.old).item) result (O.state out.new) }
+{
+    match machine.step(alloc, abc, main)? {
+        None => Ok(()),
+        Some(item) => print_record(alloc, &item, out),
+    }
+}
+
+// Prints the line of a record.
+fn print_record<O: Sink>(alloc: Global, item: &TraceItem, out: &mut O) -> Result<(), WriteRefusal>
+    ensures { Prints (O.state out.old) (record_line item.now) result (O.state out.new) }
+{
+    let line = line_of(alloc, item)?;
+    print_line(alloc, line.as_slice(), out)
+}
+
+// Prints a line and its end.
+fn print_line<O: Sink>(alloc: Global, line: &[u8], out: &mut O) -> Result<(), WriteRefusal>
+    ensures { Prints (O.state out.old) (with_end line.now) result (O.state out.new) }
+{
+    let mut bytes = Bytes::new(alloc);
+    bytes.extend(line)?;
+    bytes.push(b'\n')?;
+    print(out, bytes.as_slice())
+}
