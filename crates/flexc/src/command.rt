@@ -12,11 +12,12 @@ ghost use Rattle.flex_edge.specs.Whole.{Prints};
 ghost use Rattle.flexc.specs.Work.{ReadsDocument, Reports, Works, read_failure};
 
 use crate::emit::{MAIN, emit};
-use crate::source::{Document, SourceRefusal, read_source};
+use crate::source::{Document, document_of};
 use crate::words::{Run, read_words};
 use abc_format::write_abc;
 use flex_base::{Bytes, NoMemory, Outcome, Text};
 use flex_edge::{Files, Observer, ReadRefusal, Sink, WriteRefusal, print, read_file, write_file};
+use flex_front::SourceRefusal;
 use script_player::play;
 use std::alloc::Global;
 use swf_tags::write_swf;
@@ -148,7 +149,7 @@ fn read_document<'a, F: Files>(
         Ok(script) => script,
         Err(refusal) => return Err(read_failure(refusal, run.script)),
     };
-    let document = match read_source(alloc, run.main, source.as_slice()) {
+    let document = match document_of(alloc, run.main, source.as_slice()) {
         Ok(document) => document,
         Err(SourceRefusal::NotYetBuilt) => return Err(Failure::NotYetBuilt(run.main)),
         Err(SourceRefusal::NoMemory) => return Err(Failure::NoMemory),
