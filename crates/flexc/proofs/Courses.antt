@@ -4,13 +4,14 @@ use Rattle.std.specs.Prelude.{IsTrue, codes, slice_get, ◌⊎◌}
 use Rattle.std.specs.Option.{IsSomeAnd}
 use Rattle.std.proofs.lemmas.List.{append-nil}
 use Rattle.flex_base.specs.declared.outcome.Outcome.{Outcome}
-use Rattle.flex_base.specs.declared.outcome.Outcome.TheVariants.{Ended}
+use Rattle.flex_base.specs.declared.outcome.Outcome.TheVariants.{Ended, TurnsSpent}
 use Rattle.flex_edge.specs.Outside.{Rose, FilesState, SinkState}
 use Rattle.flex_edge.specs.Calls.{SameCounts, Changes, SinkChanges}
-use Rattle.flexc.specs.Command.{turns, status, status_after, AreWords, HasRead, FailsToRead, At_source, At_script, HasBuilt, HasWrittenFile, Says, HasNoMemory, Early, Writing, Playing, Course, No_command, Cannot_read, Too_long, Not_built, Bad_script, Cannot_write, Cannot_print, No_memory, Has_ended, HoldsFile, HasPrintedTrace, IsRunnable, NoFileFault, NoSinkFault, RunsWhole, RunsInPart, HoldsBoth, Refuses, For_words, For_long_source, For_long_script, For_source, For_script, HasSaid}
+use Rattle.flexc.specs.Command.{status, status_after, outcome_status, IsEnd, HasRead, FailsToRead, At_source, At_script, HasBuilt, HasWrittenFile, Says, HasNoMemory, Early, Writing, Playing, Course, No_command, Cannot_read, Too_long, Not_built, Bad_script, Cannot_write, Cannot_print, No_memory, Has_played, HoldsFile, HasPrintedTrace, IsRunnable, NoFileFault, NoSinkFault, RunsWhole, RunsInPart, HoldsBoth, Refuses, For_words, For_long_source, For_long_script, For_source, For_script, HasSaid}
 use Rattle.flexc.specs.Meaning.{source_trace}
 use Rattle.script_player.specs.Playing.{HasTrace}
 use Rattle.flexc.specs.PlaysAs.{PlaysAs}
+use Rattle.flexc.specs.Words.{AreWords, Plain, With_turns, turns}
 use Rattle.script_player.specs.Printed.{HasPlayed, Plays}
 use Rattle.flexc.specs.Source.{HasDocument, IsNotBuilt}
 use Rattle.script_player.specs.Trace.{Story, text, with_end}
@@ -23,7 +24,7 @@ use Rattle.flex_edge.specs.declared.input.ReadRefusal.TheVariants as read
 use Rattle.flex_edge.specs.declared.output.WriteRefusal.{WriteRefusal}
 use Rattle.flex_edge.specs.declared.output.WriteRefusal.TheVariants as write
 use Rattle.flexc.specs.declared.source.Document.{Document}
-use Rattle.flexc.proofs.EndsWell.{ends_well}
+use Rattle.flexc.proofs.EndsWell.{ends_so}
 use Rattle.flexc.proofs.Sources.{one_document, small_document, source_short}
 
 -- what failed, and what was said of it
@@ -49,21 +50,26 @@ failed_course words (failure.CannotWrite name) old new before mid after answer h
     let n = h.0 in
     Cannot_write n.script name.now n.main n.document n.are n.written (subst (λ s. Says 8 (codes "cannot write " ++ name.now) s after answer) h.1 r)
 failed_course words failure.CannotPrint old new before mid after answer h r =
-    Cannot_print h.script h.out h.main h.document h.are h.written (subst (λ s. Plays h.written.bytes turns before (Err write.Failed) s) (sym r.0) h.plays) r.1
+    Cannot_print h.script h.out h.main h.document h.are h.written (subst (λ s. Plays h.written.bytes (turns words) before (Err write.Failed) s) (sym r.0) h.plays) r.1
 failed_course words failure.NoMemory old new before mid after answer h r = No_memory (subst (λ s. HasNoMemory words old new before s) (sym r.0) h) r.1
 
-pub ended_course : (words : List (List ℕ)) (old new : FilesState) (before after : SinkState) (answer : Status) → HasRun words Ended old new before after → answer ≡ status 0
-    → Course words old new before after answer
-ended_course words old new before after answer h is = Has_ended h.script h.out h.main h.document h.are h.written h.plays is
+pub played_course : (words : List (List ℕ)) (outcome : Outcome) (old new : FilesState) (before after : SinkState) (answer : Status)
+    → HasRun words outcome old new before after → answer ≡ outcome_status outcome → IsEnd outcome → Course words old new before after answer
+played_course words outcome old new before after answer h is comes = Has_played h.script h.out h.main h.document outcome h.are h.written h.plays is comes
 
 some_is : {A : Type 0} (a b : A) → Some a ≡ Some b → a ≡ b
 some_is a b e = cc
 
 -- the words of one command name the same files
 same_words : (words : List (List ℕ)) (s o m t p n : List ℕ) → AreWords words s o m → AreWords words t p n → (s ≡ t) × (o ≡ p) × (m ≡ n)
-same_words words s o m t p n a b =
+same_words words s o m t p n (Plain a) (Plain b) =
     let e = sym a ∙ b in
     (some_is s t (ap (λ l. slice_get l 2) e), some_is o p (ap (λ l. slice_get l 4) e), some_is m n (ap (λ l. slice_get l 5) e))
+same_words words s o m t p n (With_turns j a) (With_turns k b) =
+    let e = sym a.are ∙ b.are in
+    (some_is s t (ap (λ l. slice_get l 2) e), some_is o p (ap (λ l. slice_get l 4) e), some_is m n (ap (λ l. slice_get l 7) e))
+same_words words s o m t p n (Plain a) (With_turns k b) = let e = ap length (sym a ∙ b.are) in absurd (omega (arith, e))
+same_words words s o m t p n (With_turns k a) (Plain b) = let e = ap length (sym a.are ∙ b) in absurd (omega (arith, e))
 
 -- what is told of two files that were read
 source_there : (script main source commands : List ℕ) (old new : FilesState) → HasRead script main source commands old new → IsTrue old.tells → old.bytes_of main ≡ Some source
@@ -131,6 +137,15 @@ module _ (words : List (List ℕ)) (old new : FilesState) where
       none.writes (subst (λ n. Rose n new.write_faults) (counts_read script main h.built.source [] old h.mid h.built.read).writes h.written.counts.writes)
 
   module _ (before after : SinkState) where
+    -- the text of the file's trace, all of which was printed, is that of the source's, and so is its outcome
+    same_story : (bytes : List ℕ) (built : Document) (outcome : Outcome) → PlaysAs bytes built → (played : HasPlayed bytes (turns words) outcome before after)
+        → played.story ≡ source_trace built [] (turns words)
+    same_story bytes built outcome plays played = plays.only [] (turns words) played.story (source_trace built [] (turns words)) played.trace (plays.same [] (turns words))
+
+    same_outcome : (bytes : List ℕ) (built : Document) (outcome : Outcome) → PlaysAs bytes built → HasPlayed bytes (turns words) outcome before after
+        → (source_trace built [] (turns words)).outcome ≡ outcome
+    same_outcome bytes built outcome plays played = sym (ap (λ (s : Story). s.outcome) (same_story bytes built outcome plays played)) ∙ played.is
+
     pub runs_whole : (answer : Status) → Course words old new before after answer → RunsWhole words old new before after answer
     runs_whole answer (No_command missing files says) document r none quiet = absurd (missing r.script r.out r.main r.are)
     runs_whole answer (Cannot_read script out main name are fails says) document r none quiet = absurd (read_fails script out main name are fails none)
@@ -142,7 +157,9 @@ module _ (words : List (List ℕ)) (old new : FilesState) where
     runs_whole answer (Cannot_write script out main built are written says) document r none quiet = absurd (write_fails script out main built written none)
     runs_whole answer (Cannot_print script out main built are written plays is) document r none quiet = absurd (quiet plays.faults)
     runs_whole answer (No_memory without is) document r none quiet = inr is
-    runs_whole answer (Has_ended script out main built are written plays is) document r none quiet = inl is
+    runs_whole answer (Has_played script out main built outcome are written plays is comes) document r none quiet =
+        let same = same_document document r script out main are written.mid built written.built in
+        inl (is ∙ ap outcome_status (sym (same_outcome written.bytes built outcome written.plays plays) ∙ ap (λ d. (source_trace d [] (turns words)).outcome) same))
 
     -- nothing was printed
     nothing_taken : (bytes : List ℕ) → after ≡ before → HasTaken bytes before after
@@ -150,23 +167,23 @@ module _ (words : List (List ℕ)) (old new : FilesState) where
 
     -- what was printed of the file's trace was printed of the source's
     part_taken : (document : Document) (r : IsRunnable words old document) (script out main : List ℕ) (built : Document) → AreWords words script out main
-        → (written : HasWrittenFile script out main built (Ok tt) old new) → ((story : Story) → HasTrace written.bytes [] turns story → HasTaken (text story) before after)
-        → HasTaken (text (source_trace document [] turns)) before after
+        → (written : HasWrittenFile script out main built (Ok tt) old new) → ((story : Story) → HasTrace written.bytes [] (turns words) story → HasTaken (text story) before after)
+        → HasTaken (text (source_trace document [] (turns words))) before after
     part_taken document r script out main built are written part =
-        subst (λ d. HasTaken (text (source_trace d [] turns)) before after) (same_document document r script out main are written.mid built written.built)
-        (part (source_trace built [] turns) (written.plays.same [] turns))
+        subst (λ d. HasTaken (text (source_trace d [] (turns words))) before after) (same_document document r script out main are written.mid built written.built)
+        (part (source_trace built [] (turns words)) (written.plays.same [] (turns words)))
 
-    memory_part : (document : Document) → IsRunnable words old document → HasNoMemory words old new before after → IsTrue before.tells → HasTaken (text (source_trace document [] turns)) before after
-    memory_part document r (Early script out main are files sink) t = nothing_taken (text (source_trace document [] turns)) sink
-    memory_part document r (Writing script out main built are written sink) t = nothing_taken (text (source_trace document [] turns)) sink
+    memory_part : (document : Document) → IsRunnable words old document → HasNoMemory words old new before after → IsTrue before.tells → HasTaken (text (source_trace document [] (turns words))) before after
+    memory_part document r (Early script out main are files sink) t = nothing_taken (text (source_trace document [] (turns words))) sink
+    memory_part document r (Writing script out main built are written sink) t = nothing_taken (text (source_trace document [] (turns words))) sink
     memory_part document r (Playing script out main built are written plays) t = part_taken document r script out main built are written (plays.told t)
 
-    -- the text of the file's trace, all of which was printed, is that of the source's
-    all_printed : (bytes : List ℕ) (built : Document) → PlaysAs bytes built → HasPlayed bytes turns Ended before after
-        → SinkChanges before after (after.write_faults ≡ before.write_faults) (after.taken ≡ before.taken ++ text (source_trace built [] turns))
-    all_printed bytes built plays played =
-        let same : played.story ≡ source_trace built [] turns = plays.only [] turns played.story (source_trace built [] turns) played.trace (plays.same [] turns) in
-        subst (λ (s : Story). SinkChanges before after (after.write_faults ≡ before.write_faults) (after.taken ≡ before.taken ++ text s)) same played.printed
+    -- and all of it was printed
+    all_printed : (bytes : List ℕ) (built : Document) (outcome : Outcome) → PlaysAs bytes built → HasPlayed bytes (turns words) outcome before after
+        → SinkChanges before after (after.write_faults ≡ before.write_faults) (after.taken ≡ before.taken ++ text (source_trace built [] (turns words)))
+    all_printed bytes built outcome plays played =
+        subst (λ (s : Story). SinkChanges before after (after.write_faults ≡ before.write_faults) (after.taken ≡ before.taken ++ text s)) (same_story bytes built outcome plays played)
+        played.printed
 
     pub runs_in_part : (answer : Status) → Course words old new before after answer → RunsInPart words old new before after
     runs_in_part answer (No_command missing files says) document r none t = absurd (missing r.script r.out r.main r.are)
@@ -179,10 +196,10 @@ module _ (words : List (List ℕ)) (old new : FilesState) where
     runs_in_part answer (Cannot_write script out main built are written says) document r none t = absurd (write_fails script out main built written none)
     runs_in_part answer (Cannot_print script out main built are written plays is) document r none t = part_taken document r script out main built are written (plays.told t)
     runs_in_part answer (No_memory without is) document r none t = memory_part document r without t
-    runs_in_part answer (Has_ended script out main built are written plays is) document r none t =
-        let all = (all_printed written.bytes built written.plays plays).told t in
-        subst (λ d. HasTaken (text (source_trace d [] turns)) before after) (same_document document r script out main are written.mid built written.built)
-        (record { part = text (source_trace built [] turns); left = []; whole = sym (append-nil (text (source_trace built [] turns))); taken = all })
+    runs_in_part answer (Has_played script out main built outcome are written plays is comes) document r none t =
+        let all = (all_printed written.bytes built outcome written.plays plays).told t in
+        subst (λ d. HasTaken (text (source_trace d [] (turns words))) before after) (same_document document r script out main are written.mid built written.built)
+        (record { part = text (source_trace built [] (turns words)); left = []; whole = sym (append-nil (text (source_trace built [] (turns words)))); taken = all })
 
     -- the files after all was written
     all_written : (script out main : List ℕ) (built : Document) (h : HasWrittenFile script out main built (Ok tt) old new)
@@ -203,27 +220,48 @@ module _ (words : List (List ℕ)) (old new : FilesState) where
           };
         }
 
-    not_zero : (n : ℕ) (result : Result (Unit {0}) WriteRefusal) → 0 < n → status_after n result ≡ status 0 → ⊥
-    not_zero n (Ok done) some e = let same : n ≡ 0 = ap (λ s. s.0) e in omega (arith, same)
-    not_zero n (Err write.Failed) some e = let same : 8 ≡ 0 = ap (λ s. s.0) e in omega (arith, same)
-    not_zero n (Err write.NoMemory) some e = let same : 9 ≡ 0 = ap (λ s. s.0) e in omega (arith, same)
+    -- no line was to be printed where the status is that of an end
+    not_said : (n k : ℕ) (result : Result (Unit {0}) WriteRefusal) → n ≢ k → 8 ≢ k → 9 ≢ k → status_after n result ≡ status k → ⊥
+    not_said n k (Ok done) a b c e = a (ap (λ s. s.0) e)
+    not_said n k (Err write.Failed) a b c e = b (ap (λ s. s.0) e)
+    not_said n k (Err write.NoMemory) a b c e = c (ap (λ s. s.0) e)
 
-    said : (n : ℕ) (line : List ℕ) (answer : Status) → 0 < n → Says n line before after answer → answer ≡ status 0 → ⊥
-    said n line answer some s e = not_zero n s.result some (sym s.is ∙ e)
+    said : (n k : ℕ) (line : List ℕ) (answer : Status) → n ≢ k → 8 ≢ k → 9 ≢ k → Says n line before after answer → answer ≡ status k → ⊥
+    said n k line answer a b c s e = not_said n k s.result a b c (sym s.is ∙ e)
 
-    numbered : (n : ℕ) (answer : Status) → 0 < n → answer ≡ status n → answer ≡ status 0 → ⊥
-    numbered n answer some is e = let same : n ≡ 0 = ap (λ s. s.0) (sym is ∙ e) in omega (arith, same)
+    numbered : (n k : ℕ) (answer : Status) → n ≢ k → answer ≡ status n → answer ≡ status k → ⊥
+    numbered n k answer a is e = a (ap (λ s. s.0) (sym is ∙ e))
 
-    pub has_printed : (answer : Status) → Course words old new before after answer → answer ≡ status 0 → HasPrintedTrace words old new before after
-    has_printed answer (No_command missing files says) e = absurd (said 2 _ answer (omega arith) says e)
-    has_printed answer (Cannot_read script out main name are fails says) e = absurd (said 7 _ answer (omega arith) says e)
-    has_printed answer (Too_long script out main name are fails says) e = absurd (said 10 _ answer (omega arith) says e)
-    has_printed answer (Not_built script out main source commands are has_read refused says) e = absurd (said 3 _ answer (omega arith) says e)
-    has_printed answer (Bad_script script out main source commands built are has_read has some says) e = absurd (said 4 _ answer (omega arith) says e)
-    has_printed answer (Cannot_write script out main built are written says) e = absurd (said 8 _ answer (omega arith) says e)
-    has_printed answer (Cannot_print script out main built are written plays is) e = absurd (numbered 8 answer (omega arith) is e)
-    has_printed answer (No_memory without is) e = absurd (numbered 9 answer (omega arith) is e)
-    has_printed answer (Has_ended script out main built are written plays is) e = record {
+    -- the status of an end is that of the outcome
+    one_outcome : (outcome end : Outcome) (answer : Status) → IsEnd outcome → IsEnd end → answer ≡ outcome_status outcome → answer ≡ outcome_status end → outcome ≡ end
+    one_outcome outcome end answer (inl a) (inl b) is e = a ∙ sym b
+    one_outcome outcome end answer (inr a) (inr b) is e = a ∙ sym b
+    one_outcome outcome end answer (inl a) (inr b) is e =
+        let same : 0 ≡ 6 = ap (λ s. s.0) (ap outcome_status (sym a) ∙ sym is ∙ e ∙ ap outcome_status b) in absurd (omega (arith, same))
+    one_outcome outcome end answer (inr a) (inl b) is e =
+        let same : 6 ≡ 0 = ap (λ s. s.0) (ap outcome_status (sym a) ∙ sym is ∙ e ∙ ap outcome_status b) in absurd (omega (arith, same))
+
+    -- a status that no line of a failure gives
+    record IsFree (k : ℕ) : Type 0 where
+      two : 2 ≢ k
+      three : 3 ≢ k
+      four : 4 ≢ k
+      seven : 7 ≢ k
+      eight : 8 ≢ k
+      nine : 9 ≢ k
+      ten : 10 ≢ k
+
+    has_printed : (k : ℕ) (end : Outcome) (answer : Status) → IsFree k → IsEnd end → outcome_status end ≡ status k → Course words old new before after answer → answer ≡ status k
+        → HasPrintedTrace words end old new before after
+    has_printed k end answer f ends of (No_command missing files says) e = absurd (said 2 k _ answer f.two f.eight f.nine says e)
+    has_printed k end answer f ends of (Cannot_read script out main name are fails says) e = absurd (said 7 k _ answer f.seven f.eight f.nine says e)
+    has_printed k end answer f ends of (Too_long script out main name are fails says) e = absurd (said 10 k _ answer f.ten f.eight f.nine says e)
+    has_printed k end answer f ends of (Not_built script out main source commands are has_read refused says) e = absurd (said 3 k _ answer f.three f.eight f.nine says e)
+    has_printed k end answer f ends of (Bad_script script out main source commands built are has_read has some says) e = absurd (said 4 k _ answer f.four f.eight f.nine says e)
+    has_printed k end answer f ends of (Cannot_write script out main built are written says) e = absurd (said 8 k _ answer f.eight f.eight f.nine says e)
+    has_printed k end answer f ends of (Cannot_print script out main built are written plays is) e = absurd (numbered 8 k answer f.eight is e)
+    has_printed k end answer f ends of (No_memory without is) e = absurd (numbered 9 k answer f.nine is e)
+    has_printed k end answer f ends of (Has_played script out main built outcome are written plays is comes) e = record {
       script = script;
       out = out;
       main = main;
@@ -234,8 +272,23 @@ module _ (words : List (List ℕ)) (old new : FilesState) where
       has = written.built.has;
       plays = written.plays;
       files = all_written script out main built written;
-      printed = all_printed written.bytes built written.plays plays;
+      printed = all_printed written.bytes built outcome written.plays plays;
+      comes_to = same_outcome written.bytes built outcome written.plays plays ∙ one_outcome outcome end answer comes ends is (e ∙ sym of);
     }
+
+    -- the status 0 is that of a play that ended by itself
+    pub has_ended : (answer : Status) → Course words old new before after answer → answer ≡ status 0 → HasPrintedTrace words Ended old new before after
+    has_ended answer c e =
+        has_printed 0 Ended answer
+        (record { two = λ s. omega (arith, s); three = λ s. omega (arith, s); four = λ s. omega (arith, s); seven = λ s. omega (arith, s); eight = λ s. omega (arith, s); nine = λ s. omega (arith, s); ten = λ s. omega (arith, s) })
+        (inl refl) refl c e
+
+    -- and the status 6 that of one whose turns are spent
+    pub has_spent : (answer : Status) → Course words old new before after answer → answer ≡ status 6 → HasPrintedTrace words TurnsSpent old new before after
+    has_spent answer c e =
+        has_printed 6 TurnsSpent answer
+        (record { two = λ s. omega (arith, s); three = λ s. omega (arith, s); four = λ s. omega (arith, s); seven = λ s. omega (arith, s); eight = λ s. omega (arith, s); nine = λ s. omega (arith, s); ten = λ s. omega (arith, s) })
+        (inr refl) refl c e
 
 module _ (words : List (List ℕ)) (old new : FilesState) (before after : SinkState) (none : NoFileFault old new) (quiet : NoSinkFault before after) (tells : IsTrue old.tells) where
   -- a line that was to be printed was printed, or memory was refused
@@ -357,7 +410,7 @@ module _ (words : List (List ℕ)) (old new : FilesState) (before after : SinkSt
           let e = same_bytes main m source s names.2 here.source_there both.source_there in
           absurd (refused built (subst (λ n. HasDocument n s built) names.2 (subst (λ b. HasDocument main b built) e has)))
       by (For_script t p m s c document are2 both has2 some2 number same) = has_said meant 4 line (codes "script:1: not yet built") answer says number same
-  refuses_rightly answer (Has_ended script out main built are written plays is) meant line why = by why
+  refuses_rightly answer (Has_played script out main built outcome are written plays is comes) meant line why = by why
     where
       here : HoldsBoth script main written.built.source [] old
       here = reading script main written.built.source [] written.mid written.built.read
@@ -378,11 +431,8 @@ module _ (words : List (List ℕ)) (old new : FilesState) (before after : SinkSt
           let names = same_words words script out main t p m are are2 in
           absurd (some (sym (same_bytes script t [] c names.0 here.script_there both.script_there)))
 
--- the play of a document that was built comes to its end
-pub run_ends : (words : List (List ℕ)) (outcome : Outcome) (old new : FilesState) (before after : SinkState) → HasRun words outcome old new before after → outcome ≡ Ended
+-- the play of a document that was built comes to its end, or its turns are spent
+pub run_ends : (words : List (List ℕ)) (outcome : Outcome) (old new : FilesState) (before after : SinkState) → HasRun words outcome old new before after → IsEnd outcome
 run_ends words outcome old new before after h =
-    let played = h.plays in
-    let plays = h.written.plays in
-    let same : played.story ≡ source_trace h.document [] turns = plays.only [] turns played.story (source_trace h.document [] turns) played.trace (plays.same [] turns) in
     let small = small_document h.main h.written.built.source h.document h.written.built.has in
-    sym played.is ∙ ap (λ (s : Story). s.outcome) same ∙ ends_well h.document 999998 small.few
+    subst IsEnd (same_outcome words old new before after h.written.bytes h.document outcome h.written.plays h.plays) (ends_so h.document (turns words) small.few)

@@ -1,6 +1,6 @@
 -- The play of a small document comes to its end, where there are turns for its two activities.
-use Rattle.std.proofs.Common.{◌≡◌, ℕ, suc, ◌+◌, ◌*◌, ◌<◌, ◌≤◌, List, [], ◌∷◌, length, Option, None, Some, Bool, true, false, refl, sym, ap, subst, arith}
-use Rattle.std.specs.Prelude.{if◌then◌else◌, nat_lt, codes}
+use Rattle.std.proofs.Common.{◌≡◌, ℕ, zero, suc, ◌+◌, ◌*◌, ◌<◌, ◌≤◌, List, [], ◌∷◌, length, Option, None, Some, Bool, true, false, inl, inr, refl, sym, ap, subst, arith}
+use Rattle.std.specs.Prelude.{if◌then◌else◌, map, nat_lt, codes}
 use Rattle.std.proofs.lemmas.Bool.{lt-ltb, le-ltb}
 use Rattle.flex_base.specs.Value.{same}
 use Rattle.flex_base.specs.declared.outcome.Outcome.TheVariants.{Ended, Stopped}
@@ -11,8 +11,9 @@ use Rattle.flex_base.specs.declared.value.Value.{Value}
 use Rattle.flex_base.specs.declared.value.Value.TheVariants as value
 use Rattle.flexc.specs.declared.source.Label.{Label}
 use Rattle.flexc.specs.declared.source.Document.{Document}
-use Rattle.flexc.specs.Meaning.{build_label, build_all, construct, play, told, source_trace}
-use Rattle.flexc.specs.World.{Kind, Property, World, Result, Goes, Halts, bind, empty_world, spend, enter, leave, activity, make, next_number, note, with_component, component, property_in, write_over, stored, child_count, with_child}
+use Rattle.flexc.specs.Command.{IsEnd}
+use Rattle.flexc.specs.Meaning.{id_property, do_all, build_label, build_all, construct, play, told, source_trace}
+use Rattle.flexc.specs.World.{Kind, Main, Property, World, Result, Goes, Halts, bind, empty_world, spend, enter, leave, activity, make, next_number, note, with_component, component, property_in, write_over, stored, child_count, with_child}
 
 abbrev GoesWith : {A : Type 0} → (A → World → Type 0) → Result A → Type 0
 GoesWith P (Goes v w) = P v w
@@ -98,9 +99,26 @@ play_goes d turns few =
     (λ _ w2 h2. goes (λ _ w. Unit {0}) tt w2 tt))
 
 -- a small document is built, and its play comes to its end
-pub ends_well : (d : Document) (turns : ℕ) → length d.labels ≤ 100 → (source_trace d [] (suc (suc turns))).outcome ≡ Ended
+ends_well : (d : Document) (turns : ℕ) → length d.labels ≤ 100 → (source_trace d [] (suc (suc turns))).outcome ≡ Ended
 ends_well d turns few = by (play d [] (empty_world (suc (suc turns)))) (play_goes d turns few)
   where
     by : (r : Result (Unit {0})) → GoesOn (λ _ w. Unit {0}) r → (told r).outcome ≡ Ended
     by (Goes v w) g = refl
     by (Halts o w) g = absurd g.on
+
+-- the main object of a small document is made
+main_made : (d : Document) (turns : ℕ) → length d.labels ≤ 100
+    → (f : ObjId → World → Result (Unit {0}))
+    → bind (make Main (codes "Main") (map id_property d.labels) (length d.labels) (empty_world turns)) f
+    ≡ f (next_number (empty_world turns)) (note (Made (next_number (empty_world turns)) (codes "Main")) (with_component (record { kind = Main; properties = map id_property d.labels; children = [] }) (16 + length d.labels) (empty_world turns)))
+main_made d turns few f =
+    let enough : nat_lt 1000000 (0 + (16 + length d.labels)) ≡ false = le-ltb 1000000 (0 + (16 + length d.labels)) (omega arith) in
+    ap (λ t. bind (if t then Halts (Stopped Cells) (empty_world turns)
+    else Goes (next_number (empty_world turns))
+    (note (Made (next_number (empty_world turns)) (codes "Main")) (with_component (record { kind = Main; properties = map id_property d.labels; children = [] }) (16 + length d.labels) (empty_world turns)))) f) enough
+
+-- how the play of a small document comes to its end
+pub ends_so : (d : Document) (turns : ℕ) → length d.labels ≤ 100 → IsEnd (source_trace d [] turns).outcome
+ends_so d zero few = inr (ap (λ r. (told r).outcome) (main_made d 0 few (λ document w1. bind (construct document d.labels w1) (λ _ w2. do_all [] w2))))
+ends_so d (suc zero) few = inr (ap (λ r. (told r).outcome) (main_made d 1 few (λ document w1. bind (construct document d.labels w1) (λ _ w2. do_all [] w2))))
+ends_so d (suc (suc turns)) few = inl (ends_well d turns few)

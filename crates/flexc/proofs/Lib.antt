@@ -19,5 +19,6 @@ pub mod Says
 pub mod Courses
 pub mod EndsWell
 pub mod Works
-pub mod SixWords
+pub mod Numbers
+pub mod CommandWords
 pub mod Examples

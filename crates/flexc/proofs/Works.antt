@@ -3,8 +3,9 @@ use Rattle.std.proofs.Common.{ℕ, List, [], Ok, Err, Result, refl, ◌∙◌}
 use Rattle.std.specs.Borrow.{Bor}
 use Rattle.flex_edge.specs.Outside.{FilesState, SinkState}
 use Rattle.flex_edge.specs.Calls.{SameCounts, Changes}
-use Rattle.flexc.specs.Command.{AreWords, At_script, HasBuilt, HasWrittenFile, HasNoMemory, Early}
+use Rattle.flexc.specs.Command.{At_script, HasBuilt, HasWrittenFile, HasNoMemory, Early}
 use Rattle.flexc.specs.PlaysAs.{PlaysAs}
+use Rattle.flexc.specs.Words.{AreWords}
 use Rattle.flexc.specs.Source.{IsNotBuilt}
 use Rattle.flex_edge.specs.Whole.{MakesNone, ReadsFile, WritesFile}
 use Rattle.flexc.specs.Work.{read_failure, IsRefused, HasNoDocument, HasFailed}

@@ -1,7 +1,7 @@
 -- What `command` does and answers.
 use Rattle.std.specs.Prelude.{◌≡◌, ◌≢◌, ℕ, ◌<◌, ◌≤◌, List, [], ◌∷◌, ◌++◌, length, map, IsTrue, Some, Result, Ok, Err, String, codes, ◌⊎◌}
-use Rattle.std.specs.String.{string_bytes}
-use Rattle.flex_base.specs.declared.outcome.Outcome.TheVariants.{Ended}
+use Rattle.flex_base.specs.declared.outcome.Outcome.{Outcome}
+use Rattle.flex_base.specs.declared.outcome.Outcome.TheVariants.{Ended, Stopped, TurnsSpent, Fault}
 use Rattle.flex_edge.specs.Outside.{Rose, FilesState, SinkState}
 use Rattle.flex_edge.specs.Calls.{SameCounts, SameOthers, Changes, SinkChanges}
 use Rattle.flexc.specs.declared.command.Status.{Status}
@@ -12,28 +12,25 @@ use Rattle.flex_edge.specs.declared.output.WriteRefusal.TheVariants as write
 use Rattle.flexc.specs.declared.source.Document.{Document}
 use Rattle.flexc.specs.Meaning.{source_trace}
 use Rattle.flexc.specs.PlaysAs.{PlaysAs}
+use Rattle.flexc.specs.Words.{AreWords, IsNoCommand, turns}
 use Rattle.script_player.specs.Printed.{HasPlayed, Plays}
 use Rattle.flexc.specs.Source.{HasDocument, IsNotBuilt}
 use Rattle.script_player.specs.Trace.{text, with_end}
 use Rattle.flex_edge.specs.Whole.{MakesNone, ReadsFile, WritesFile, Prints, HasTaken}
 
--- the number of turns of a play
-abbrev pub turns : ℕ
-turns = 1000000
-
 abbrev pub status : ℕ → Status
 status n = record { 0 = n }
 
--- the texts of the words
-abbrev pub texts : {Z : Type 0} → List (String Z) → List (List ℕ)
-texts words = map string_bytes words
+-- the status of a play's outcome
+abbrev pub outcome_status : Outcome → Status
+outcome_status Ended = status 0
+outcome_status (Stopped stop) = status 1
+outcome_status TurnsSpent = status 6
+outcome_status (Fault fault) = status 11
 
--- `run --script S --out O MAIN`
-abbrev pub AreWords : List (List ℕ) → List ℕ → List ℕ → List ℕ → Type 0
-AreWords words script out main = words ≡ codes "run" ∷ codes "--script" ∷ script ∷ codes "--out" ∷ out ∷ main ∷ []
-
-abbrev pub IsNoCommand : List (List ℕ) → Type 0
-IsNoCommand words = (script out main : List ℕ) → AreWords words script out main → ⊥
+-- how the play of a document that is built so far comes to its end: by itself, or because its turns are spent
+abbrev pub IsEnd : Outcome → Type 0
+IsEnd outcome = (outcome ≡ Ended) ⊎ (outcome ≡ TurnsSpent)
 
 -- the main source was read whole, and then the script
 pub record HasRead (script main source commands : List ℕ) (old new : FilesState) : Type 0 where
@@ -84,7 +81,7 @@ pub data HasNoMemory (words : List (List ℕ)) (old new : FilesState) (before af
       (written : HasWrittenFile script out main document (Err write.NoMemory) old new) (sink : after ≡ before) → HasNoMemory words old new before after
   -- while it was played
   Playing : (script out main : List ℕ) (document : Document) (are : AreWords words script out main)
-      (written : HasWrittenFile script out main document (Ok tt) old new) (plays : Plays written.bytes turns before (Err write.NoMemory) after)
+      (written : HasWrittenFile script out main document (Ok tt) old new) (plays : Plays written.bytes (turns words) before (Err write.NoMemory) after)
       → HasNoMemory words old new before after
 
 -- what a command did, and the status that it answered
@@ -103,12 +100,12 @@ pub data Course (words : List (List ℕ)) (old new : FilesState) (before after :
       (written : HasWrittenFile script out main document (Err write.Failed) old new) (says : Says 8 (codes "cannot write " ++ out) before after answer)
       → Course words old new before after answer
   Cannot_print : (script out main : List ℕ) (document : Document) (are : AreWords words script out main)
-      (written : HasWrittenFile script out main document (Ok tt) old new) (plays : Plays written.bytes turns before (Err write.Failed) after) (is : answer ≡ status 8)
+      (written : HasWrittenFile script out main document (Ok tt) old new) (plays : Plays written.bytes (turns words) before (Err write.Failed) after) (is : answer ≡ status 8)
       → Course words old new before after answer
   No_memory : (without : HasNoMemory words old new before after) (is : answer ≡ status 9) → Course words old new before after answer
-  Has_ended : (script out main : List ℕ) (document : Document) (are : AreWords words script out main)
-      (written : HasWrittenFile script out main document (Ok tt) old new) (plays : HasPlayed written.bytes turns Ended before after) (is : answer ≡ status 0)
-      → Course words old new before after answer
+  Has_played : (script out main : List ℕ) (document : Document) (outcome : Outcome) (are : AreWords words script out main)
+      (written : HasWrittenFile script out main document (Ok tt) old new) (plays : HasPlayed written.bytes (turns words) outcome before after)
+      (is : answer ≡ outcome_status outcome) (comes : IsEnd outcome) → Course words old new before after answer
 
 -- both files of the command have these bytes, and the other one has the written bytes now
 pub record HoldsFile (script out main source bytes : List ℕ) (old new : FilesState) : Type 0 where
@@ -117,8 +114,8 @@ pub record HoldsFile (script out main source bytes : List ℕ) (old new : FilesS
   pub written : new.bytes_of out ≡ Some bytes
   pub others : SameOthers out old new
 
--- a document was built, its file written and played, and the trace that its source means was printed, all of it and nothing else
-pub record HasPrintedTrace (words : List (List ℕ)) (old new : FilesState) (before after : SinkState) : Type 0 where
+-- a document was built, its file written and played, and the trace that its source means, with this outcome, was printed, all of it and nothing else
+pub record HasPrintedTrace (words : List (List ℕ)) (outcome : Outcome) (old new : FilesState) (before after : SinkState) : Type 0 where
   pub script : List ℕ
   pub out : List ℕ
   pub main : List ℕ
@@ -129,7 +126,8 @@ pub record HasPrintedTrace (words : List (List ℕ)) (old new : FilesState) (bef
   pub has : HasDocument main source document
   pub plays : PlaysAs bytes document
   pub files : Changes old new (SameCounts old new) (HoldsFile script out main source bytes old new)
-  pub printed : SinkChanges before after (after.write_faults ≡ before.write_faults) (after.taken ≡ before.taken ++ text (source_trace document [] turns))
+  pub printed : SinkChanges before after (after.write_faults ≡ before.write_faults) (after.taken ≡ before.taken ++ text (source_trace document [] (turns words)))
+  pub comes_to : (source_trace document [] (turns words)).outcome ≡ outcome
 
 -- the words name a main source with this document and an empty script
 pub record IsRunnable (words : List (List ℕ)) (files : FilesState) (document : Document) : Type 0 where
@@ -183,12 +181,13 @@ RefusesRightly words old new before after answer =
     (meant : ℕ) (line : List ℕ) → Refuses words old meant line → IsTrue old.tells → NoFileFault old new → NoSinkFault before after
     → HasSaid meant line before after answer ⊎ (answer ≡ status 9)
 
--- what can be run is run and answers 0, where nothing fails outside and memory isn't refused
+-- what can be run is run, and its outcome answered, where nothing fails outside and memory isn't refused
 abbrev pub RunsWhole : List (List ℕ) → FilesState → FilesState → SinkState → SinkState → Status → Type 0
 RunsWhole words old new before after answer =
-    (document : Document) → IsRunnable words old document → NoFileFault old new → NoSinkFault before after → (answer ≡ status 0) ⊎ (answer ≡ status 9)
+    (document : Document) → IsRunnable words old document → NoFileFault old new → NoSinkFault before after
+    → (answer ≡ outcome_status (source_trace document [] (turns words)).outcome) ⊎ (answer ≡ status 9)
 
 -- of what can be run a first part of the trace is printed, unless a file fails
 abbrev pub RunsInPart : List (List ℕ) → FilesState → FilesState → SinkState → SinkState → Type 0
 RunsInPart words old new before after =
-    (document : Document) → IsRunnable words old document → NoFileFault old new → IsTrue before.tells → HasTaken (text (source_trace document [] turns)) before after
+    (document : Document) → IsRunnable words old document → NoFileFault old new → IsTrue before.tells → HasTaken (text (source_trace document [] (turns words))) before after

@@ -4,5 +4,6 @@ pub mod World
 pub mod Meaning
 pub mod Examples
 pub mod PlaysAs
+pub mod Words
 pub mod Command
 pub mod Work

@@ -11,7 +11,8 @@ use Rattle.flex_edge.specs.declared.input.ReadRefusal.{ReadRefusal}
 use Rattle.flex_edge.specs.declared.input.ReadRefusal.TheVariants as read
 use Rattle.flex_edge.specs.declared.output.WriteRefusal.TheVariants as write
 use Rattle.flexc.specs.declared.source.Document.{Document}
-use Rattle.flexc.specs.Command.{turns, status, AreWords, IsNoCommand, HasRead, FailsToRead, HasBuilt, HasWrittenFile, Says, HasNoMemory}
+use Rattle.flexc.specs.Command.{status, HasRead, FailsToRead, HasBuilt, HasWrittenFile, Says, HasNoMemory}
+use Rattle.flexc.specs.Words.{AreWords, IsNoCommand, turns}
 use Rattle.script_player.specs.Printed.{HasPlayed, Plays}
 use Rattle.flexc.specs.Source.{HasDocument, IsNotBuilt}
 use Rattle.flex_edge.specs.Whole.{MakesNone}
@@ -74,7 +75,7 @@ pub record HasNotPrinted (words : List (List ℕ)) (old new : FilesState) (befor
   pub document : Document
   pub are : AreWords words script out main
   pub written : HasWrittenFile script out main document (Ok tt) old new
-  pub plays : Plays written.bytes turns before (Err write.Failed) after
+  pub plays : Plays written.bytes (turns words) before (Err write.Failed) after
 
 pub record HasRun (words : List (List ℕ)) (outcome : Outcome) (old new : FilesState) (before after : SinkState) : Type 0 where
   pub script : List ℕ
@@ -83,7 +84,7 @@ pub record HasRun (words : List (List ℕ)) (outcome : Outcome) (old new : Files
   pub document : Document
   pub are : AreWords words script out main
   pub written : HasWrittenFile script out main document (Ok tt) old new
-  pub plays : HasPlayed written.bytes turns outcome before after
+  pub plays : HasPlayed written.bytes (turns words) outcome before after
 
 -- why nothing was played, or not to its end
 abbrev pub HasFailed : List (List ℕ) → Failure → FilesState → FilesState → SinkState → SinkState → Type 0

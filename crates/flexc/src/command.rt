@@ -2,12 +2,13 @@
 
 ghost use Rattle.std.specs.Prelude.{◌≡◌, ◌++◌, [], ◌∷◌, IfOk};
 ghost use Rattle.abc_format.specs.Spelling.{abc_bytes};
-ghost use Rattle.flex_base.specs.declared.outcome.Outcome.TheVariants.{Ended};
+ghost use Rattle.flex_base.specs.declared.outcome.Outcome.TheVariants.{Ended, TurnsSpent};
 ghost use Rattle.swf_tags.specs.Spelling.{swf_bytes};
-ghost use Rattle.flexc.specs.Command.{Course, HasPrintedTrace, RunsWhole, RunsInPart, RefusesRightly, Says, status, texts};
+ghost use Rattle.flexc.specs.Command.{Course, HasPrintedTrace, RunsWhole, RunsInPart, RefusesRightly, Says, outcome_status, status};
 ghost use Rattle.flexc.specs.Emitted.{abc_of, main_text};
 ghost use Rattle.flexc.specs.PlaysAs.{PlaysAs};
 ghost use Rattle.flexc.specs.Source.{IsSmall};
+ghost use Rattle.flexc.specs.Words.{texts};
 ghost use Rattle.flex_edge.specs.Whole.{Prints};
 ghost use Rattle.flexc.specs.Work.{ReadsDocument, Reports, Works, read_failure};
 
@@ -21,9 +22,6 @@ use flex_front::SourceRefusal;
 use script_player::play;
 use std::alloc::Global;
 use swf_tags::write_swf;
-
-/// The number of turns of a play.
-const TURNS: u32 = 1_000_000;
 
 /// How a command ended: the exit status of the program.
 #[derive(Clone, Copy, Debug, PartialEq, Eq)]
@@ -67,8 +65,9 @@ enum Failure<'a> {
     NoMemory,
 }
 
-/// Does what the words say: `run --script S --out O MAIN` builds the main source, writes the SWF
-/// file O, plays its bytes with the script, and prints the trace. This project's own.
+/// Does what the words say: `run --script S --out O [--turns N] MAIN` builds the main source, writes
+/// the SWF file O, plays its bytes with the script and so many turns, 1,000,000 where none are said,
+/// and prints the trace. This project's own.
 ///
 /// The order of work is: the words, the main source read, the script read, the source judged, the
 /// script judged, the file written, the play.
@@ -81,7 +80,8 @@ pub fn command<F: Files, O: Sink>(
 ) -> Status
     requires { observers.old.items ≡ [] }
     ensures course { Course (texts words.now) (F.state files.old) (F.state files.new) (O.state out.old) (O.state out.new) result }
-    ensures ended { result ≡ status 0 → HasPrintedTrace (texts words.now) (F.state files.old) (F.state files.new) (O.state out.old) (O.state out.new) }
+    ensures ended { result ≡ status 0 → HasPrintedTrace (texts words.now) Ended (F.state files.old) (F.state files.new) (O.state out.old) (O.state out.new) }
+    ensures spent { result ≡ status 6 → HasPrintedTrace (texts words.now) TurnsSpent (F.state files.old) (F.state files.new) (O.state out.old) (O.state out.new) }
     ensures whole { RunsWhole (texts words.now) (F.state files.old) (F.state files.new) (O.state out.old) (O.state out.new) result }
     ensures refused { RefusesRightly (texts words.now) (F.state files.old) (F.state files.new) (O.state out.old) (O.state out.new) result }
     ensures part { RunsInPart (texts words.now) (F.state files.old) (F.state files.new) (O.state out.old) (O.state out.new) }
@@ -125,7 +125,7 @@ fn build_and_play<'a, F: Files, O: Sink>(
         Err(WriteRefusal::Failed) => return Err(Failure::CannotWrite(run.out)),
         Err(WriteRefusal::NoMemory) => return Err(Failure::NoMemory),
     }
-    match play(alloc, swf.as_slice(), TURNS, out) {
+    match play(alloc, swf.as_slice(), run.turns, out) {
         Ok(outcome) => Ok(outcome),
         Err(WriteRefusal::Failed) => Err(Failure::CannotPrint),
         Err(WriteRefusal::NoMemory) => Err(Failure::NoMemory),
@@ -187,7 +187,7 @@ fn build(alloc: Global, document: &Document) -> Result<Bytes, NoMemory>
 
 // The status of a play's outcome.
 fn status_of(outcome: Outcome) -> Status
-    ensures { outcome ≡ Ended → result ≡ status 0 }
+    ensures { result ≡ outcome_status outcome }
 {
     match outcome {
         Outcome::Ended => Status::ENDED,

@@ -205,6 +205,35 @@ fn labels_are_made_in_order(rt: HostRuntime) -> Result<(), Fail> {
     Ok(())
 }
 
+// The words of a play with so many turns.
+fn perform_turns(alloc: Global, turns: &str) -> Result<Left, NoMemory> {
+    let words = [
+        "run",
+        "--script",
+        "empty.txt",
+        "--out",
+        "hello.swf",
+        "--turns",
+        turns,
+        "Main.mxml",
+    ];
+    perform(alloc, &words, "Main.mxml", LABEL, "")
+}
+
+#[test]
+fn turns_are_spent(rt: HostRuntime) -> Result<(), Fail> {
+    for turns in ["0", "1", "0000000001"] {
+        perform_turns(rt.alloc(), turns)?.shows(6, "new 1 Main\nturns\n")?;
+    }
+    for turns in ["2", "1000000000"] {
+        perform_turns(rt.alloc(), turns)?.shows(0, TRACE)?;
+    }
+    for turns in ["1000000001", "00000000002", "", "-1", "2x"] {
+        perform_turns(rt.alloc(), turns)?.refuses(2, BAD_USAGE)?;
+    }
+    Ok(())
+}
+
 #[test]
 fn other_sources_are_not_yet_built(rt: HostRuntime) -> Result<(), Fail> {
     let cases = [
