@@ -7,7 +7,7 @@ use Rattle.abc_format.specs.declared.records.Multiname.{Multiname}
 use Rattle.abc_format.specs.declared.records.Multiname.TheVariants.{QName}
 use Rattle.avm2_machine.specs.declared.names.Name as Borrowed
 use Rattle.avm2_machine.specs.declared.catalog.NativeClass.{NativeClass}
-use Rattle.avm2_machine.specs.declared.catalog.NativeClass.TheVariants.{Application, Label}
+use Rattle.avm2_machine.specs.declared.catalog.NativeClass.TheVariants.{Application, Label, Button}
 
 -- a qualified name: the text of its namespace, and its own text
 pub record Name : Type 0 where
@@ -53,12 +53,13 @@ is_name n space local = bytes_eq n.space space && bytes_eq n.local local
 abbrev pub class_name : NativeClass → List ℕ
 class_name Application = codes "Application"
 class_name Label = codes "Label"
+class_name Button = codes "Button"
 
 -- a native class by its name
 abbrev pub class_named : List ℕ → List ℕ → Option NativeClass
 class_named space local =
     if bytes_eq space (codes "spark.components") then
-    (if bytes_eq local (codes "Application") then Some Application else if bytes_eq local (codes "Label") then Some Label else None)
+    (if bytes_eq local (codes "Application") then Some Application else if bytes_eq local (codes "Label") then Some Label else if bytes_eq local (codes "Button") then Some Button else None)
     else None
 
 abbrev pub class_of_name : Option Name → Option NativeClass

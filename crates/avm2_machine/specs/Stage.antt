@@ -25,6 +25,7 @@ empty_stage = record { objects = []; cells = 0 }
 abbrev pub same_native : NativeClass → NativeClass → Bool
 same_native native.Application native.Application = true
 same_native native.Label native.Label = true
+same_native native.Button native.Button = true
 same_native _ _ = false
 
 abbrev pub same_class : Class → Class → Bool
@@ -109,10 +110,15 @@ is_of s (value.Text text) type.Text = true
 is_of s (value.Ref o) (type.Instance c) = has_class c (object_at s o)
 is_of s _ _ = false
 
+-- a property that holds a text, which is empty at first
+abbrev pub text_slot : List ℕ → Slot
+text_slot name = record { name = name; kind = type.Text; value = value.Text [] }
+
 -- the properties of a new object of a native class
 abbrev pub native_slots : NativeClass → List Slot
 native_slots native.Application = []
-native_slots native.Label = record { name = codes "text"; kind = type.Text; value = value.Text [] } ∷ []
+native_slots native.Label = text_slot (codes "text") ∷ []
+native_slots native.Button = text_slot (codes "label") ∷ []
 
 abbrev pub children_of : Option Object → Option (List ObjId)
 children_of None = None

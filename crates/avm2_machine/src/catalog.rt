@@ -8,6 +8,7 @@ ghost use Rattle.avm2_machine.specs.Names.{class_named, class_name};
 pub enum NativeClass {
     Application,
     Label,
+    Button,
 }
 
 impl NativeClass {
@@ -18,6 +19,7 @@ impl NativeClass {
         match self {
             NativeClass::Application => "Application",
             NativeClass::Label => "Label",
+            NativeClass::Button => "Button",
         }
     }
 }
@@ -32,6 +34,7 @@ pub fn class_named(space: &str, local: &str) -> Option<NativeClass>
     match local {
         "Application" => Some(NativeClass::Application),
         "Label" => Some(NativeClass::Label),
+        "Button" => Some(NativeClass::Button),
         _ => None,
     }
 }

@@ -2,7 +2,7 @@
 
 ghost use Rattle.std.specs.Prelude.{◌≡◌, ◌<◌, ◌↔◌, ◌∷◌, ℕ, IsSome, IfSome, OnSome, IfOk, option_copied, length};
 ghost use Rattle.flex_base.specs.Value.{same};
-ghost use Rattle.avm2_machine.specs.Stage.{MakesObject, Places, with_property, next_place, children_of, empty_stage, object_at, property, place_of, slot_named, is_of, native_slots, same_native, same_class};
+ghost use Rattle.avm2_machine.specs.Stage.{MakesObject, Places, with_property, next_place, children_of, empty_stage, object_at, property, place_of, slot_named, is_of, native_slots, same_native, same_class, text_slot};
 
 use crate::catalog::NativeClass;
 use flex_base::{NoMemory, ObjId, RunRefusal, Sequence, Stop, Text, Value};
@@ -58,7 +58,8 @@ impl NativeClass {
     {
         match (self, other) {
             (NativeClass::Application, NativeClass::Application)
-            | (NativeClass::Label, NativeClass::Label) => true,
+            | (NativeClass::Label, NativeClass::Label)
+            | (NativeClass::Button, NativeClass::Button) => true,
             _ => false,
         }
     }
@@ -230,14 +231,20 @@ pub fn native_slots(alloc: Global, class: NativeClass) -> Result<Sequence<Slot>,
 {
     let mut slots = Sequence::new(alloc);
     match class {
-        NativeClass::Application => Ok(slots),
-        NativeClass::Label => {
-            slots.push(Slot {
-                name: Text::make(alloc, "text")?,
-                kind: PropertyType::Text,
-                value: Value::Text(Text::make(alloc, "")?),
-            })?;
-            Ok(slots)
-        }
+        NativeClass::Application => {}
+        NativeClass::Label => slots.push(text_slot(alloc, "text")?)?,
+        NativeClass::Button => slots.push(text_slot(alloc, "label")?)?,
     }
+    Ok(slots)
+}
+
+// A property that holds a text, which is empty at first.
+fn text_slot(alloc: Global, name: &str) -> Result<Slot, NoMemory>
+    ensures { IfOk result (λ slot. slot ≡ text_slot name.now) }
+{
+    Ok(Slot {
+        name: Text::make(alloc, name)?,
+        kind: PropertyType::Text,
+        value: Value::Text(Text::make(alloc, "")?),
+    })
 }

@@ -6,8 +6,8 @@ use Rattle.std.proofs.lemmas.List.Elements.{All-from_recursion}
 use Rattle.swf_tags.specs.Spelling.{swf_bytes}
 use Rattle.abc_format.specs.Spelling.{abc_bytes}
 use Rattle.abc_format.specs.declared.records.Abc.{Abc}
-use Rattle.flexc.specs.declared.source.Label.{Label}
-use Rattle.flexc.specs.Source.{IsShort}
+use Rattle.flex_front.specs.declared.document.Element.{Element}
+use Rattle.flex_front.specs.Source.{IsShort}
 use Rattle.flexc.specs.Emitted.{abc_of, main_text}
 use Rattle.swf_tags.specs.File.{IsSwf, written_tags}
 use Rattle.swf_tags.proofs.Related.{written-is_swf}
@@ -20,22 +20,22 @@ main_is_utf8 = (text-brief main_text refl (omega arith)).valid
 main_has_no_zero : All (λ byte. byte ≢ 0) main_text
 main_has_no_zero = All-from_recursion (λ byte. byte ≢ 0) main_text ((λ e. omega arith), ((λ e. omega arith), ((λ e. omega arith), ((λ e. omega arith), tt))))
 
--- the file of a document of not too many Labels is a SWF file
-pub built_is_swf : (labels : List Label) → length labels ≤ 100 → All IsShort labels
-    → IsSwf 10 (written_tags main_text (abc_bytes (abc_of labels))) (abc_bytes (abc_of labels)) main_text (swf_bytes main_text (abc_bytes (abc_of labels)))
-built_is_swf labels few short =
-    let size = length-abc_bytes labels few short in
-    written-is_swf main_text (abc_bytes (abc_of labels)) main_has_no_zero main_is_utf8 (omega (arith, size))
+-- the file of a document of not too many elements is a SWF file
+pub built_is_swf : (es : List Element) → length es ≤ 100 → All IsShort es
+    → IsSwf 10 (written_tags main_text (abc_bytes (abc_of es))) (abc_bytes (abc_of es)) main_text (swf_bytes main_text (abc_bytes (abc_of es)))
+built_is_swf es few short =
+    let size = length-abc_bytes es few short in
+    written-is_swf main_text (abc_bytes (abc_of es)) main_has_no_zero main_is_utf8 (omega (arith, size))
 
 -- the file is that of the document
-pub built_from : (labels : List Label) (abc : Abc) (main code swf : List ℕ) → swf ≡ swf_bytes main code → main ≡ main_text → code ≡ abc_bytes abc → abc ≡ abc_of labels → swf ≡ swf_bytes main_text (abc_bytes (abc_of labels))
-built_from labels abc main code swf is name bytes emitted =
+pub built_from : (es : List Element) (abc : Abc) (main code swf : List ℕ) → swf ≡ swf_bytes main code → main ≡ main_text → code ≡ abc_bytes abc → abc ≡ abc_of es → swf ≡ swf_bytes main_text (abc_bytes (abc_of es))
+built_from es abc main code swf is name bytes emitted =
     is ∙ ap (λ m. swf_bytes m code) name ∙ ap (swf_bytes main_text) (bytes ∙ ap abc_bytes emitted)
 
 -- the file isn't too long
-pub built_fits : (labels : List Label) (abc : Abc) (main code : List ℕ) → length labels ≤ 100 → All IsShort labels → main ≡ main_text → code ≡ abc_bytes abc → abc ≡ abc_of labels → length main + length code ≤ 2000000000
-built_fits labels abc main code few short name bytes emitted =
-    let size = length-abc_bytes labels few short in
+pub built_fits : (es : List Element) (abc : Abc) (main code : List ℕ) → length es ≤ 100 → All IsShort es → main ≡ main_text → code ≡ abc_bytes abc → abc ≡ abc_of es → length main + length code ≤ 2000000000
+built_fits es abc main code few short name bytes emitted =
+    let size = length-abc_bytes es few short in
     let four : length main ≡ 4 = ap length name in
-    let all : length code ≡ length (abc_bytes (abc_of labels)) = ap length (bytes ∙ ap abc_bytes emitted) in
+    let all : length code ≡ length (abc_bytes (abc_of es)) = ap length (bytes ∙ ap abc_bytes emitted) in
     omega (arith, size, four, all)

@@ -23,7 +23,7 @@ use Rattle.flexc.specs.declared.command.Status.{Status}
 use Rattle.flex_edge.specs.declared.input.ReadRefusal.TheVariants as read
 use Rattle.flex_edge.specs.declared.output.WriteRefusal.{WriteRefusal}
 use Rattle.flex_edge.specs.declared.output.WriteRefusal.TheVariants as write
-use Rattle.flexc.specs.declared.source.Document.{Document}
+use Rattle.flex_front.specs.declared.document.Document.{Document}
 use Rattle.flexc.proofs.EndsWell.{ends_so}
 use Rattle.flexc.proofs.Sources.{one_document, small_document, source_short}
 

@@ -9,10 +9,12 @@ use Rattle.flex_base.specs.declared.record.TraceItem.TheVariants.{Made, Written,
 use Rattle.flex_base.specs.declared.value.ObjId.{ObjId}
 use Rattle.flex_base.specs.declared.value.Value.{Value}
 use Rattle.flex_base.specs.declared.value.Value.TheVariants as value
-use Rattle.flexc.specs.declared.source.Label.{Label}
-use Rattle.flexc.specs.declared.source.Document.{Document}
+use Rattle.flex_front.specs.declared.document.Element.{Element}
+use Rattle.flex_front.specs.declared.document.Element.TheVariants as element
+use Rattle.flex_front.specs.declared.document.Document.{Document}
+use Rattle.flex_front.specs.Source.{id_of}
 use Rattle.flexc.specs.Command.{IsEnd}
-use Rattle.flexc.specs.Meaning.{id_property, do_all, build_label, build_all, construct, play, told, source_trace}
+use Rattle.flexc.specs.Meaning.{id_property, do_all, apply, build_element, build_all, construct, play, told, source_trace}
 use Rattle.flexc.specs.World.{Kind, Main, Property, World, Result, Goes, Halts, bind, empty_world, spend, enter, leave, activity, make, next_number, note, with_component, component, property_in, write_over, stored, child_count, with_child}
 
 abbrev GoesWith : {A : Type 0} → (A → World → Type 0) → Result A → Type 0
@@ -68,38 +70,43 @@ activity_goes c d l t u f w low h each =
     (λ _ w1 h1. on_then (λ _ w2. Has d (l + 1) u w2) (λ _ w2. Has d l u w2) (f w1) (λ _ w2. Goes tt (leave w2)) (each w1 h1)
     (λ _ w2 h2. let level = h2.level_is in goes (λ _ w3. Has d l u w3) tt (leave w2) (record { cells_are = h2.cells_are; level_is = omega arith; turns_are = h2.turns_are })))
 
-all_go : (c l t : ℕ) (document : ObjId) (labels : List Label) (w : World) → c + 16 * length labels ≤ 1000000 → Has c l t w
-    → GoesOn (λ _ w1. Has (c + 16 * length labels) l t w1) (build_all document labels w)
+apply_goes : (c l t : ℕ) (o : ObjId) (e : Element) (w : World) → Has c l t w → GoesOn (λ _ w1. Has c l t w1) (apply o e w)
+apply_goes c l t o (element.Label id text) w h =
+    goes (λ _ w1. Has c l t w1) tt (write_over o (codes "text") (property_in (codes "text") (component w o)) (value.Text text) w)
+    (written_has c l t o (codes "text") (property_in (codes "text") (component w o)) (value.Text text) w h)
+apply_goes c l t o (element.Button id click) w h = goes (λ _ w1. Has c l t w1) tt w h
+
+all_go : (c l t : ℕ) (document : ObjId) (es : List Element) (w : World) → c + 16 * length es ≤ 1000000 → Has c l t w
+    → GoesOn (λ _ w1. Has (c + 16 * length es) l t w1) (build_all document es w)
 all_go c l t document [] w fits h =
     let cells = h.cells_are in
     goes (λ _ w1. Has (c + 0) l t w1) tt w (record { cells_are = omega arith; level_is = h.level_is; turns_are = h.turns_are })
-all_go c l t document (label ∷ labels) w fits h =
-    let e : (c + (16 + 0)) + 16 * length labels ≡ c + 16 * length (label ∷ labels) = omega arith in
-    on_then (λ _ w1. Has (c + (16 + 0)) l t w1) (λ _ w1. Has (c + 16 * length (label ∷ labels)) l t w1) (build_label document label w) (λ _ w1. build_all document labels w1)
+all_go c l t document (x ∷ es) w fits h =
+    let e : (c + (16 + 0)) + 16 * length es ≡ c + 16 * length (x ∷ es) = omega arith in
+    on_then (λ _ w1. Has (c + (16 + 0)) l t w1) (λ _ w1. Has (c + 16 * length (x ∷ es)) l t w1) (build_element document x w) (λ _ w1. build_all document es w1)
     (on_then (λ _ w1. Has (c + (16 + 0)) l t w1) (λ _ w1. Has (c + (16 + 0)) l t w1) _ _ (make_goes c l t _ _ _ 0 w (omega arith) h)
     (λ o w1 h1.
-    let w2 = write_over document label.id (property_in label.id (component w1 document)) (value.Ref o) w1 in
-    let w3 = write_over o (codes "text") (property_in (codes "text") (component w2 o)) (value.Text label.text) w2 in
-    let h2 = written_has (c + (16 + 0)) l t document label.id (property_in label.id (component w1 document)) (value.Ref o) w1 h1 in
-    let h3 = written_has (c + (16 + 0)) l t o (codes "text") (property_in (codes "text") (component w2 o)) (value.Text label.text) w2 h2 in
-    goes (λ _ w4. Has (c + (16 + 0)) l t w4) o (note (Added document o (child_count (component w3 document))) (with_child document o w3))
-    (record { cells_are = h3.cells_are; level_is = h3.level_is; turns_are = h3.turns_are })))
-    (λ o w1 h1. subst (λ n. GoesOn (λ _ w2. Has n l t w2) (build_all document labels w1)) e (all_go (c + (16 + 0)) l t document labels w1 (omega arith) h1))
+    let w2 = write_over document (id_of x) (property_in (id_of x) (component w1 document)) (value.Ref o) w1 in
+    let h2 = written_has (c + (16 + 0)) l t document (id_of x) (property_in (id_of x) (component w1 document)) (value.Ref o) w1 h1 in
+    on_then (λ _ w3. Has (c + (16 + 0)) l t w3) (λ _ w4. Has (c + (16 + 0)) l t w4) (apply o x w2) _ (apply_goes (c + (16 + 0)) l t o x w2 h2)
+    (λ _ w3 h3. goes (λ _ w4. Has (c + (16 + 0)) l t w4) o (note (Added document o (child_count (component w3 document))) (with_child document o w3))
+    (record { cells_are = h3.cells_are; level_is = h3.level_is; turns_are = h3.turns_are }))))
+    (λ o w1 h1. subst (λ n. GoesOn (λ _ w2. Has n l t w2) (build_all document es w1)) e (all_go (c + (16 + 0)) l t document es w1 (omega arith) h1))
 
-play_goes : (d : Document) (turns : ℕ) → length d.labels ≤ 100 → GoesOn (λ _ w. Unit {0}) (play d [] (empty_world (suc (suc turns))))
+play_goes : (d : Document) (turns : ℕ) → length d.elements ≤ 100 → GoesOn (λ _ w. Unit {0}) (play d [] (empty_world (suc (suc turns))))
 play_goes d turns few =
-    let cells = 0 + (16 + length d.labels) in
-    let all = cells + 16 * length d.labels in
-    on_then (λ _ w. Has cells 0 (suc (suc turns)) w) (λ _ w. Unit {0}) _ (λ document w1. bind (construct document d.labels w1) (λ _ w2. Goes tt w2))
-    (make_goes 0 0 (suc (suc turns)) _ _ _ (length d.labels) (empty_world (suc (suc turns))) (omega arith) (record { cells_are = omega arith; level_is = refl; turns_are = refl }))
-    (λ document w1 h1. on_then (λ _ w. Has all 0 turns w) (λ _ w. Unit {0}) (construct document d.labels w1) (λ _ w2. Goes tt w2)
-    (activity_goes cells all 0 (suc turns) turns (activity (build_all document d.labels)) w1 (omega arith) h1
-    (λ w2 h2. activity_goes cells all (0 + 1) turns turns (build_all document d.labels) w2 (omega arith) h2
-    (λ w3 h3. all_go cells ((0 + 1) + 1) turns document d.labels w3 (omega arith) h3)))
+    let cells = 0 + (16 + length d.elements) in
+    let all = cells + 16 * length d.elements in
+    on_then (λ _ w. Has cells 0 (suc (suc turns)) w) (λ _ w. Unit {0}) _ (λ document w1. bind (construct document d.elements w1) (λ _ w2. Goes tt w2))
+    (make_goes 0 0 (suc (suc turns)) _ _ _ (length d.elements) (empty_world (suc (suc turns))) (omega arith) (record { cells_are = omega arith; level_is = refl; turns_are = refl }))
+    (λ document w1 h1. on_then (λ _ w. Has all 0 turns w) (λ _ w. Unit {0}) (construct document d.elements w1) (λ _ w2. Goes tt w2)
+    (activity_goes cells all 0 (suc turns) turns (activity (build_all document d.elements)) w1 (omega arith) h1
+    (λ w2 h2. activity_goes cells all (0 + 1) turns turns (build_all document d.elements) w2 (omega arith) h2
+    (λ w3 h3. all_go cells ((0 + 1) + 1) turns document d.elements w3 (omega arith) h3)))
     (λ _ w2 h2. goes (λ _ w. Unit {0}) tt w2 tt))
 
 -- a small document is built, and its play comes to its end
-ends_well : (d : Document) (turns : ℕ) → length d.labels ≤ 100 → (source_trace d [] (suc (suc turns))).outcome ≡ Ended
+ends_well : (d : Document) (turns : ℕ) → length d.elements ≤ 100 → (source_trace d [] (suc (suc turns))).outcome ≡ Ended
 ends_well d turns few = by (play d [] (empty_world (suc (suc turns)))) (play_goes d turns few)
   where
     by : (r : Result (Unit {0})) → GoesOn (λ _ w. Unit {0}) r → (told r).outcome ≡ Ended
@@ -107,18 +114,18 @@ ends_well d turns few = by (play d [] (empty_world (suc (suc turns)))) (play_goe
     by (Halts o w) g = absurd g.on
 
 -- the main object of a small document is made
-main_made : (d : Document) (turns : ℕ) → length d.labels ≤ 100
+main_made : (d : Document) (turns : ℕ) → length d.elements ≤ 100
     → (f : ObjId → World → Result (Unit {0}))
-    → bind (make Main (codes "Main") (map id_property d.labels) (length d.labels) (empty_world turns)) f
-    ≡ f (next_number (empty_world turns)) (note (Made (next_number (empty_world turns)) (codes "Main")) (with_component (record { kind = Main; properties = map id_property d.labels; children = [] }) (16 + length d.labels) (empty_world turns)))
+    → bind (make Main (codes "Main") (map id_property d.elements) (length d.elements) (empty_world turns)) f
+    ≡ f (next_number (empty_world turns)) (note (Made (next_number (empty_world turns)) (codes "Main")) (with_component (record { kind = Main; properties = map id_property d.elements; children = [] }) (16 + length d.elements) (empty_world turns)))
 main_made d turns few f =
-    let enough : nat_lt 1000000 (0 + (16 + length d.labels)) ≡ false = le-ltb 1000000 (0 + (16 + length d.labels)) (omega arith) in
+    let enough : nat_lt 1000000 (0 + (16 + length d.elements)) ≡ false = le-ltb 1000000 (0 + (16 + length d.elements)) (omega arith) in
     ap (λ t. bind (if t then Halts (Stopped Cells) (empty_world turns)
     else Goes (next_number (empty_world turns))
-    (note (Made (next_number (empty_world turns)) (codes "Main")) (with_component (record { kind = Main; properties = map id_property d.labels; children = [] }) (16 + length d.labels) (empty_world turns)))) f) enough
+    (note (Made (next_number (empty_world turns)) (codes "Main")) (with_component (record { kind = Main; properties = map id_property d.elements; children = [] }) (16 + length d.elements) (empty_world turns)))) f) enough
 
 -- how the play of a small document comes to its end
-pub ends_so : (d : Document) (turns : ℕ) → length d.labels ≤ 100 → IsEnd (source_trace d [] turns).outcome
-ends_so d zero few = inr (ap (λ r. (told r).outcome) (main_made d 0 few (λ document w1. bind (construct document d.labels w1) (λ _ w2. do_all [] w2))))
-ends_so d (suc zero) few = inr (ap (λ r. (told r).outcome) (main_made d 1 few (λ document w1. bind (construct document d.labels w1) (λ _ w2. do_all [] w2))))
+pub ends_so : (d : Document) (turns : ℕ) → length d.elements ≤ 100 → IsEnd (source_trace d [] turns).outcome
+ends_so d zero few = inr (ap (λ r. (told r).outcome) (main_made d 0 few (λ document w1. bind (construct document d.elements w1) (λ _ w2. do_all [] w2))))
+ends_so d (suc zero) few = inr (ap (λ r. (told r).outcome) (main_made d 1 few (λ document w1. bind (construct document d.elements w1) (λ _ w2. do_all [] w2))))
 ends_so d (suc (suc turns)) few = inl (ends_well d turns few)

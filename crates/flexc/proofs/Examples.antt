@@ -1,6 +1,6 @@
--- What two small documents mean, by computation.
+-- What small documents mean, by computation.
 use Rattle.std.proofs.Common.{refl}
-use Rattle.flexc.specs.Examples.{GreetingMeans, EmptyTextMeans, OneTurnMeans}
+use Rattle.flexc.specs.Examples.{GreetingMeans, EmptyTextMeans, OneTurnMeans, ButtonMeans}
 
 pub greeting_means : GreetingMeans
 greeting_means = refl
@@ -10,3 +10,6 @@ empty_text_means = refl
 
 pub one_turn_means : OneTurnMeans
 one_turn_means = refl
+
+pub button_means : ButtonMeans
+button_means = refl

@@ -6,9 +6,10 @@ use Rattle.flex_base.specs.declared.outcome.Outcome.{Outcome}
 use Rattle.flex_base.specs.declared.outcome.Outcome.TheVariants.{Stopped, TurnsSpent, Fault}
 use Rattle.flex_base.specs.declared.outcome.Stop.TheVariants.{Depth, Cells}
 use Rattle.flex_base.specs.declared.value.ObjId.{ObjId}
-use Rattle.flexc.specs.declared.source.Label.{Label}
-use Rattle.flexc.specs.declared.source.Document.{Document}
-use Rattle.flexc.specs.Meaning.{build_label, build_all, construct, do_all, play, told, source_trace}
+use Rattle.flex_front.specs.declared.document.Element.{Element}
+use Rattle.flex_front.specs.declared.document.Element.TheVariants as element
+use Rattle.flex_front.specs.declared.document.Document.{Document}
+use Rattle.flexc.specs.Meaning.{apply, build_element, build_all, construct, do_all, play, told, source_trace}
 use Rattle.script_player.specs.Script.{UserEvent}
 use Rattle.flexc.specs.World.{Kind, Property, World, Result, Goes, Halts, bind, empty_world, spend, enter, leave, activity, make, next_number}
 
@@ -49,15 +50,20 @@ activity_fairly f w each =
     bind_fairly (enter w) (λ _ w1. bind (f w1) (λ _ w2. Goes tt (leave w2))) (enter_fairly w)
     (λ _ w1. bind_fairly (f w1) (λ _ w2. Goes tt (leave w2)) (each w1) (λ _ w2. goes_fairly tt (leave w2)))
 
-all_fairly : (document : ObjId) (labels : List Label) (w : World) → IsFair (build_all document labels w)
+apply_fairly : (o : ObjId) (e : Element) (w : World) → IsFair (apply o e w)
+apply_fairly o (element.Label id text) w = goes_fairly tt _
+apply_fairly o (element.Button id click) w = goes_fairly tt w
+
+all_fairly : (document : ObjId) (es : List Element) (w : World) → IsFair (build_all document es w)
 all_fairly document [] w = goes_fairly tt w
-all_fairly document (label ∷ labels) w =
-    bind_fairly (build_label document label w) (λ _ w1. build_all document labels w1) (bind_fairly _ _ (make_fairly _ _ _ 0 w) (λ o w1. goes_fairly o _)) (λ _ w1. all_fairly document labels w1)
+all_fairly document (e ∷ es) w =
+    bind_fairly (build_element document e w) (λ _ w1. build_all document es w1)
+    (bind_fairly _ _ (make_fairly _ _ _ 0 w) (λ o w1. bind_fairly _ _ (apply_fairly o e _) (λ _ w2. goes_fairly o _))) (λ _ w1. all_fairly document es w1)
 
 play_fairly : (d : Document) (events : List UserEvent) (w : World) → IsFair (play d events w)
 play_fairly d [] w =
     bind_fairly _ _ (make_fairly _ _ _ _ w)
-    (λ document w1. bind_fairly (construct document d.labels w1) (λ _ w2. do_all [] w2) (activity_fairly (activity (build_all document d.labels)) w1 (λ w2. activity_fairly (build_all document d.labels) w2 (all_fairly document d.labels)))
+    (λ document w1. bind_fairly (construct document d.elements w1) (λ _ w2. do_all [] w2) (activity_fairly (activity (build_all document d.elements)) w1 (λ w2. activity_fairly (build_all document d.elements) w2 (all_fairly document d.elements)))
     (λ _ w2. goes_fairly tt w2))
 play_fairly d (e ∷ events) w = elim e [ ]
 

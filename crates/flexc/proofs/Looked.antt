@@ -7,13 +7,12 @@ use Rattle.abc_format.specs.declared.records.Abc.{Abc}
 use Rattle.abc_format.specs.declared.records.Multiname.TheVariants.{QName}
 use Rattle.abc_format.specs.declared.records.Trait.{Trait}
 use Rattle.abc_format.specs.declared.records.TraitKind.TheVariants as trait_kind
-use Rattle.avm2_machine.specs.declared.catalog.NativeClass.TheVariants as native
-use Rattle.flexc.specs.declared.source.Label.{Label}
-use Rattle.avm2_machine.specs.declared.stage.Class.TheVariants as class
-use Rattle.avm2_machine.specs.declared.stage.PropertyType.TheVariants as type
+use Rattle.flex_front.specs.declared.document.Element.{Element}
+use Rattle.flex_front.specs.declared.document.Element.TheVariants as element
+use Rattle.flex_front.specs.Source.{id_of}
 use Rattle.avm2_machine.specs.declared.stage.Slot.{Slot}
-use Rattle.flexc.specs.Emitted.{each_from, id_string, text_string, id_name, rank_int, fixed_names, fixed_strings, label_strings, id_trait, building_trait, instance_traits, abc_of}
-use Rattle.flexc.specs.Meaning.{id_property}
+use Rattle.flexc.specs.Emitted.{each_from, each_element, class_number, id_string, text_string, id_name, rank_int, fixed_names, fixed_strings, element_strings, id_trait, building_trait, instance_traits, abc_of}
+use Rattle.flexc.specs.Meaning.{id_property, element_class}
 use Rattle.avm2_machine.specs.Names.{Name, entry, string_at, name_of, with_texts, name_at, native_at, is_name}
 use Rattle.avm2_machine.specs.Tables.{public_text, public_at, typed_slot, declared_slot, and_slot, declared_onto, method_by, is_named, method_named}
 use Rattle.flexc.proofs.States.{slot_of}
@@ -39,27 +38,41 @@ slice_get-each_from f k (suc n) (suc j) lt =
     let e : suc k + j ≡ k + suc j = omega arith in
     slice_get-each_from f (suc k) n j (omega arith) ∙ ap (λ i. Some (f i)) e
 
--- the two strings of a Label
-id-at : (labels : List Label) (k : ℕ) (label : Label) → slice_get labels k ≡ Some label → slice_get (flat_map label_strings labels) (2 * k) ≡ Some label.id
-id-at [] k label e = cc
-id-at (l ∷ labels) zero label e = let same : l ≡ label = cc in ap (λ x. Some x.id) same
-id-at (l ∷ labels) (suc k) label e =
+-- the string of an element that holds its text
+abbrev pub text_of : Element → List ℕ
+text_of (element.Label id text) = text
+text_of (element.Button id click) = []
+
+-- the two strings of an element
+strings-of : (e : Element) → element_strings e ≡ id_of e ∷ text_of e ∷ []
+strings-of (element.Label id text) = refl
+strings-of (element.Button id click) = refl
+
+id-at : (es : List Element) (k : ℕ) (e : Element) → slice_get es k ≡ Some e → slice_get (flat_map element_strings es) (2 * k) ≡ Some (id_of e)
+id-at [] k e is = absurd (cc)
+id-at (x ∷ es) zero e is =
+    let same : x ≡ e = cc in
+    ap (λ l. slice_get (l ++ flat_map element_strings es) 0) (strings-of x) ∙ ap (λ y. Some (id_of y)) same
+id-at (x ∷ es) (suc k) e is =
     let two : 2 * suc k ≡ suc (suc (2 * k)) = omega arith in
-    ap (slice_get (flat_map label_strings (l ∷ labels))) two ∙ id-at labels k label e
+    ap (slice_get (flat_map element_strings (x ∷ es))) two ∙ ap (λ l. slice_get (l ++ flat_map element_strings es) (suc (suc (2 * k)))) (strings-of x) ∙ id-at es k e is
 
-text-at : (labels : List Label) (k : ℕ) (label : Label) → slice_get labels k ≡ Some label → slice_get (flat_map label_strings labels) (suc (2 * k)) ≡ Some label.text
-text-at [] k label e = cc
-text-at (l ∷ labels) zero label e = let same : l ≡ label = cc in ap (λ x. Some x.text) same
-text-at (l ∷ labels) (suc k) label e =
+text-at : (es : List Element) (k : ℕ) (e : Element) → slice_get es k ≡ Some e → slice_get (flat_map element_strings es) (suc (2 * k)) ≡ Some (text_of e)
+text-at [] k e is = absurd (cc)
+text-at (x ∷ es) zero e is =
+    let same : x ≡ e = cc in
+    ap (λ l. slice_get (l ++ flat_map element_strings es) 1) (strings-of x) ∙ ap (λ y. Some (text_of y)) same
+text-at (x ∷ es) (suc k) e is =
     let two : suc (2 * suc k) ≡ suc (suc (suc (2 * k))) = omega arith in
-    ap (slice_get (flat_map label_strings (l ∷ labels))) two ∙ text-at labels k label e
+    ap (slice_get (flat_map element_strings (x ∷ es))) two ∙ ap (λ l. slice_get (l ++ flat_map element_strings es) (suc (suc (suc (2 * k))))) (strings-of x) ∙ text-at es k e is
 
-module _ (labels : List Label) where
+module _ (es : List Element) where
   abbrev pub abc : Abc
-  abc = abc_of labels
+  abc = abc_of es
 
-  pub label_class : native_at abc 3 ≡ Some native.Label
-  label_class = refl
+  pub class_is : (e : Element) → native_at abc (class_number e) ≡ Some (element_class e)
+  class_is (element.Label id text) = refl
+  class_is (element.Button id click) = refl
 
   pub text_name : public_at abc 4 ≡ Some (codes "text")
   text_name = refl
@@ -77,63 +90,63 @@ module _ (labels : List Label) where
   building_is_other = refl
 
   -- the strings of the pool behind the fixed ones
-  string_behind : (j n : ℕ) (text : List ℕ) → n ≡ suc (length fixed_strings + j) → slice_get (flat_map label_strings labels) j ≡ Some text → string_at abc n ≡ Some text
-  string_behind j n text e at = ap (string_at abc) e ∙ slice_get_behind fixed_strings (flat_map label_strings labels) j ∙ at
+  string_behind : (j n : ℕ) (text : List ℕ) → n ≡ suc (length fixed_strings + j) → slice_get (flat_map element_strings es) j ≡ Some text → string_at abc n ≡ Some text
+  string_behind j n text e at = ap (string_at abc) e ∙ slice_get_behind fixed_strings (flat_map element_strings es) j ∙ at
 
-  module _ (k : ℕ) (label : Label) (at : slice_get labels k ≡ Some label) (within : k < length labels) where
-    id_is : string_at abc (id_string k) ≡ Some label.id
-    id_is = string_behind (2 * k) (id_string k) label.id (omega arith) (id-at labels k label at)
+  module _ (k : ℕ) (x : Element) (at : slice_get es k ≡ Some x) (within : k < length es) where
+    id_is : string_at abc (id_string k) ≡ Some (id_of x)
+    id_is = string_behind (2 * k) (id_string k) (id_of x) (omega arith) (id-at es k x at)
 
-    pub text_is : string_at abc (text_string k) ≡ Some label.text
-    text_is = string_behind (suc (2 * k)) (text_string k) label.text (omega arith) (text-at labels k label at)
+    pub text_is : string_at abc (text_string k) ≡ Some (text_of x)
+    text_is = string_behind (suc (2 * k)) (text_string k) (text_of x) (omega arith) (text-at es k x at)
 
     id_entry : entry abc.constant_pool.multinames (id_name k) ≡ Some (QName 1 (id_string k))
     id_entry =
         let e : id_name k ≡ suc (length fixed_names + k) = omega arith in
-        ap (entry abc.constant_pool.multinames) e ∙ slice_get_behind fixed_names (each_from (λ i. QName 1 (id_string i) ∷ []) 0 (length labels)) k
-        ∙ slice_get-each_from (λ i. QName 1 (id_string i)) 0 (length labels) k within
+        ap (entry abc.constant_pool.multinames) e ∙ slice_get_behind fixed_names (each_from (λ i. QName 1 (id_string i) ∷ []) 0 (length es)) k
+        ∙ slice_get-each_from (λ i. QName 1 (id_string i)) 0 (length es) k within
         ∙ ap (λ i. Some (QName 1 (id_string i))) (omega arith)
 
-    pub id_public : public_at abc (id_name k) ≡ Some label.id
+    pub id_public : public_at abc (id_name k) ≡ Some (id_of x)
     id_public = ap (λ m. public_text (name_of abc m)) id_entry ∙ ap (λ s. public_text (with_texts (Some []) s)) id_is
 
     pub rank_is : entry abc.constant_pool.integers (rank_int k) ≡ Some (pos k)
     rank_is =
         let e : rank_int k ≡ suc k = omega arith in
-        ap (entry abc.constant_pool.integers) e ∙ slice_get-each_from pos 0 (length labels) k within ∙ ap (λ i. Some (pos i)) (omega arith)
+        ap (entry abc.constant_pool.integers) e ∙ slice_get-each_from pos 0 (length es) k within ∙ ap (λ i. Some (pos i)) (omega arith)
 
   -- no variable is a method
   passed : (t : Bool) (slot_id type_name vindex vkind : ℕ) (rest : Option ℕ) → method_by t (trait_kind.Slot slot_id type_name vindex vkind) rest ≡ rest
   passed true slot_id type_name vindex vkind rest = refl
   passed false slot_id type_name vindex vkind rest = refl
 
-  method_behind : (k n : ℕ) (traits : List Trait) (name : Name) → method_named abc (each_from (λ i. id_trait i ∷ []) k n ++ traits) name ≡ method_named abc traits name
-  method_behind k zero traits name = refl
-  method_behind k (suc n) traits name = passed (is_named abc (id_name k) name) 0 3 0 0 _ ∙ method_behind (suc k) n traits name
+  method_behind : (k : ℕ) (xs : List Element) (traits : List Trait) (name : Name)
+      → method_named abc (each_element (λ i e. id_trait i e ∷ []) k xs ++ traits) name ≡ method_named abc traits name
+  method_behind k [] traits name = refl
+  method_behind k (x ∷ xs) traits name = passed (is_named abc (id_name k) name) 0 (class_number x) 0 0 _ ∙ method_behind (suc k) xs traits name
 
-  pub building_method : method_named abc (instance_traits (length labels)) building ≡ Some 3
-  building_method = method_behind 0 (length labels) (building_trait ∷ []) building
+  pub building_method : method_named abc (instance_traits es) building ≡ Some 3
+  building_method = method_behind 0 es (building_trait ∷ []) building
 
-  abbrev pub id_slot : Label → Slot
-  id_slot label = slot_of (type.Instance (class.Native native.Label)) (id_property label)
+  abbrev pub id_slot : Element → Slot
+  id_slot e = slot_of (id_property e)
 
-  id_declared : (k : ℕ) (label : Label) → slice_get labels k ≡ Some label → k < length labels → declared_slot abc (id_name k) (trait_kind.Slot 0 3 0 0) ≡ Some (Some (id_slot label))
-  id_declared k label at within = ap (λ x. option_map Some (typed_slot x (native_at abc 3))) (id_public k label at within)
+  id_declared : (k : ℕ) (x : Element) → slice_get es k ≡ Some x → k < length es → declared_slot abc (id_name k) (trait_kind.Slot 0 (class_number x) 0 0) ≡ Some (Some (id_slot x))
+  id_declared k x at within =
+      ap (λ n. option_map Some (typed_slot n (native_at abc (class_number x)))) (id_public k x at within) ∙ ap (λ c. option_map Some (typed_slot (Some (id_of x)) c)) (class_is x)
 
-  declared_from : (before rest : List Label) (k n : ℕ) (slots : List Slot) → labels ≡ before ++ rest → k ≡ length before → n ≡ length rest
-      → declared_onto abc (each_from (λ i. id_trait i ∷ []) k n ++ building_trait ∷ []) slots ≡ Some (slots ++ map id_slot rest)
-  declared_from before [] k zero slots all is many = ap Some (sym (append-nil slots))
-  declared_from before [] k (suc n) slots all is many = absurd (omega arith)
-  declared_from before (l ∷ rest) k zero slots all is many = absurd (omega arith)
-  declared_from before (l ∷ rest) k (suc n) slots all is many =
-      let at : slice_get labels k ≡ Some l = ap (λ ls. slice_get ls k) all ∙ ap (slice_get (before ++ l ∷ rest)) is ∙ slice_get_seam before l rest in
-      let size : length labels ≡ length before + length (l ∷ rest) = ap length all ∙ length-append before (l ∷ rest) in
-      let within : k < length labels = omega arith in
-      let next : labels ≡ (before ++ l ∷ []) ++ rest = all ∙ sym (append_assoc before (l ∷ []) rest) in
-      let place : suc k ≡ length (before ++ l ∷ []) = omega (arith, length-append before (l ∷ [])) in
-      ap (λ d. and_slot d slots (declared_onto abc (each_from (λ i. id_trait i ∷ []) (suc k) n ++ building_trait ∷ []))) (id_declared k l at within)
-      ∙ declared_from (before ++ l ∷ []) rest (suc k) n (slots ++ id_slot l ∷ []) next place (omega arith)
-      ∙ ap Some (append_assoc slots (id_slot l ∷ []) (map id_slot rest))
+  declared_from : (before rest : List Element) (k : ℕ) (slots : List Slot) → es ≡ before ++ rest → k ≡ length before
+      → declared_onto abc (each_element (λ i e. id_trait i e ∷ []) k rest ++ building_trait ∷ []) slots ≡ Some (slots ++ map id_slot rest)
+  declared_from before [] k slots all is = ap Some (sym (append-nil slots))
+  declared_from before (x ∷ rest) k slots all is =
+      let at : slice_get es k ≡ Some x = ap (λ ls. slice_get ls k) all ∙ ap (slice_get (before ++ x ∷ rest)) is ∙ slice_get_seam before x rest in
+      let size : length es ≡ length before + length (x ∷ rest) = ap length all ∙ length-append before (x ∷ rest) in
+      let within : k < length es = omega arith in
+      let next : es ≡ (before ++ x ∷ []) ++ rest = all ∙ sym (append_assoc before (x ∷ []) rest) in
+      let place : suc k ≡ length (before ++ x ∷ []) = omega (arith, length-append before (x ∷ [])) in
+      ap (λ d. and_slot d slots (declared_onto abc (each_element (λ i e. id_trait i e ∷ []) (suc k) rest ++ building_trait ∷ []))) (id_declared k x at within)
+      ∙ declared_from (before ++ x ∷ []) rest (suc k) (slots ++ id_slot x ∷ []) next place
+      ∙ ap Some (append_assoc slots (id_slot x ∷ []) (map id_slot rest))
 
-  pub declared_are : declared_onto abc (instance_traits (length labels)) [] ≡ Some (map id_slot labels)
-  declared_are = declared_from [] labels 0 (length labels) [] refl refl refl
+  pub declared_are : declared_onto abc (instance_traits es) [] ≡ Some (map id_slot es)
+  declared_are = declared_from [] es 0 [] refl refl

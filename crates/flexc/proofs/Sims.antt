@@ -21,7 +21,6 @@ use Rattle.avm2_machine.specs.declared.frame.Operand.TheVariants as operand
 use Rattle.avm2_code.specs.declared.instruction.Instruction.{Instruction}
 use Rattle.avm2_code.specs.declared.instruction.Instruction.TheVariants.{PushString, PushInt, ReturnVoid, ConstructSuper, ConstructProp, CallPropVoid, FindPropStrict, SetProperty, GetLocal0, GetLocal1, SetLocal1}
 use Rattle.avm2_machine.specs.declared.machine.Machine.{Machine}
-use Rattle.avm2_machine.specs.declared.stage.PropertyType.TheVariants as type
 use Rattle.avm2_machine.specs.declared.stage.Slot.{Slot}
 use Rattle.std.specs.Result.{result_ok}
 use Rattle.avm2_code.specs.Reading.{instruction_at}
@@ -108,7 +107,7 @@ module _ (abc : Abc) (main : List ℕ) where
 
   -- an object is made on both sides
   pub makes_sim : {A : Type 0} (kind : Kind) (name : List ℕ) (properties : List Property) (declared : ℕ) (slots : List Slot) (fs : List CodeFrame) (w : World)
-      (put : ObjId → Machine → Moved) (f : ObjId → World → Result A) (k : A → World → Config) → slots ≡ map (slot_of (type_of kind)) properties → length w.objects < 4294967295
+      (put : ObjId → Machine → Moved) (f : ObjId → World → Result A) (k : A → World → Config) → slots ≡ map slot_of properties → length w.objects < 4294967295
       → ((w1 : World) → w1 ≡ with_component (record { kind = kind; properties = properties; children = [] }) (16 + declared) w
       → Sim (turned w1 (put (next_number w) (machine_of fs None w1))) (f (next_number w) (note (Made (next_number w) name) w1)) k)
       → Sim (turned w (and_then (makes (class_of kind) slots declared (machine_of fs None w)) put)) (bind (make kind name properties declared w) f) k
@@ -188,7 +187,7 @@ module _ (abc : Abc) (main : List ℕ) where
 
       -- an object of a native class is made on both sides
       pub construct_sim : {B : Type 0} (name : ℕ) (c : NativeClass) (properties : List Property) (ls : List Operand) (f : ObjId → World → Result B) (l : B → World → Config)
-          → native_at abc name ≡ Some c → native_slots c ≡ map (slot_of type.Text) properties → length w.objects < 4294967295 → Here a (ConstructProp name 0)
+          → native_at abc name ≡ Some c → native_slots c ≡ map slot_of properties → length w.objects < 4294967295 → Here a (ConstructProp name 0)
           → ((w1 : World) → w1 ≡ note (Made (next_number w) (class_name c)) (with_component (record { kind = Native c; properties = properties; children = [] }) (16 + 0) w)
           → Sim (at (frame b (a + size (ConstructProp name 0)) (ref (next_number w) ∷ st) ls ∷ fs) w1) (f (next_number w) w1) l)
           → Sim (at (frame b a (operand.Natives ∷ st) ls ∷ fs) w) (bind (make (Native c) (class_name c) properties 0 w) f) l
@@ -201,7 +200,7 @@ module _ (abc : Abc) (main : List ℕ) where
 
       -- a property that is there is written on both sides
       pub set_property_sim : {B : Type 0} (name : ℕ) (text : List ℕ) (n : ℕ) (v : Value) (c : Component) (p : Property) (ls : List Operand) (f : Unit {0} → World → Result B) (l : B → World → Config)
-          → public_at abc name ≡ Some text → component w (record { 0 = n }) ≡ Some c → property_named text c.properties ≡ Some p → is_of (stage_of w) v (type_of c.kind) ≡ true
+          → public_at abc name ≡ Some text → component w (record { 0 = n }) ≡ Some c → property_named text c.properties ≡ Some p → is_of (stage_of w) v (type_of p.content) ≡ true
           → Here a (SetProperty name)
           → ((w1 : World) → w1 ≡ write_over (record { 0 = n }) text (Some p) v w → Sim (at (frame b (a + size (SetProperty name)) st ls ∷ fs) w1) (f tt w1) l)
           → Sim (at (frame b a (operand.Value v ∷ ref (record { 0 = n }) ∷ st) ls ∷ fs) w) (bind (write (record { 0 = n }) text v w) f) l
@@ -224,8 +223,8 @@ module _ (abc : Abc) (main : List ℕ) where
           found : property_in text (component w o) ≡ Some p
           found = ap (property_in text) there ∙ has_p
 
-          slot : property (stage_of w) o text ≡ Some (slot_of (type_of c.kind) p)
-          slot = ap (stage_slot_of text) (object_is w o ∙ ap (option_map object_of) there) ∙ slot_is (type_of c.kind) text c.properties ∙ ap (option_map (slot_of (type_of c.kind))) has_p
+          slot : property (stage_of w) o text ≡ Some (slot_of p)
+          slot = ap (stage_slot_of text) (object_is w o ∙ ap (option_map object_of) there) ∙ slot_is text c.properties ∙ ap (option_map slot_of) has_p
 
           by : (t : Bool) → ((w1 : World) → w1 ≡ (if t then w else note (Written o text v) (stored o text v w)) → Sim (at (g ∷ fs) w1) (f tt w1) l)
               → Sim (turned w (if t then silent (with_frame g m) else recorded (Written o text v) (record (with_frame g m) { stage = with_property o text v m.stage })))

@@ -7,7 +7,8 @@ use Rattle.std.proofs.lemmas.List.Elements.{All-head, All-tail, All-nil, All-con
 use Rattle.abc_format.specs.Numbers.{u30_bytes, int_bytes}
 use Rattle.abc_format.specs.Spelling.{counted, table, table_count}
 use Rattle.avm2_code.proofs.Sizes.{u30-length}
-use Rattle.flexc.specs.Emitted.{each_from}
+use Rattle.flex_front.specs.declared.document.Element.{Element}
+use Rattle.flexc.specs.Emitted.{each_from, each_element}
 
 -- bytes, so many at most
 pub record Within (most : ℕ) (bytes : List ℕ) : Type 0 where
@@ -76,12 +77,26 @@ pub each_from-length : {A : Type 0} (f : ℕ → A) (k n : ℕ) → length (each
 each_from-length f k zero = refl
 each_from-length f k (suc n) = ap suc (each_from-length f (suc k) n)
 
--- as many items for each number
-pub each_from-long : {A : Type 0} (f : ℕ → List A) (most k n : ℕ) → ((i : ℕ) → length (f i) ≡ most) → length (each_from f k n) ≡ most * n
-each_from-long f most k zero long = omega arith
-each_from-long f most k (suc n) long = omega (arith, length-append (f k) (each_from f (suc k) n), long k, each_from-long f most (suc k) n long, mul-suc most n)
-
 -- what holds of the item of each number holds of them all
 pub each_from-all : {A : Type 0} (P : A → Type 0) (f : ℕ → A) (k n most : ℕ) → k + n ≤ most → ((i : ℕ) → i < most → P (f i)) → All P (each_from (λ i. f i ∷ []) k n)
 each_from-all P f k zero most le each = All-nil P
 each_from-all P f k (suc n) most le each = All-cons P (f k) (each_from (λ i. f i ∷ []) (suc k) n) (each k (omega arith)) (each_from-all P f (suc k) n most (omega arith) each)
+
+-- one item for each element
+pub each_element-length : {A : Type 0} (f : ℕ → Element → A) (k : ℕ) (es : List Element) → length (each_element (λ i e. f i e ∷ []) k es) ≡ length es
+each_element-length f k [] = refl
+each_element-length f k (e ∷ es) = ap suc (each_element-length f (suc k) es)
+
+-- at most so many items for each element
+pub each_element-short : {A : Type 0} (f : ℕ → Element → List A) (most k : ℕ) (es : List Element) → ((i : ℕ) (e : Element) → length (f i e) ≤ most)
+    → length (each_element f k es) ≤ most * length es
+each_element-short f most k [] short = omega arith
+each_element-short f most k (e ∷ es) short =
+    omega (arith, length-append (f k e) (each_element f (suc k) es), short k e, each_element-short f most (suc k) es short, mul-suc most (length es))
+
+-- what holds of the item of each element holds of them all
+pub each_element-all : {A : Type 0} (P : A → Type 0) (f : ℕ → Element → A) (k most : ℕ) (es : List Element) → k + length es ≤ most → ((i : ℕ) (e : Element) → i < most → P (f i e))
+    → All P (each_element (λ i e. f i e ∷ []) k es)
+each_element-all P f k most [] le each = All-nil P
+each_element-all P f k most (e ∷ es) le each =
+    All-cons P (f k e) (each_element (λ i x. f i x ∷ []) (suc k) es) (each k e (omega arith)) (each_element-all P f (suc k) most es (omega arith) each)

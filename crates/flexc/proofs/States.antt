@@ -7,7 +7,6 @@ use Rattle.std.proofs.lemmas.Option.{slice_get-map}
 use Rattle.flex_base.specs.declared.outcome.Outcome.{Outcome}
 use Rattle.flex_base.specs.declared.value.ObjId.{ObjId}
 use Rattle.flex_base.specs.declared.value.Value.{Value}
-use Rattle.avm2_machine.specs.declared.catalog.NativeClass.TheVariants as native
 use Rattle.avm2_machine.specs.declared.frame.CodeFrame.{CodeFrame}
 use Rattle.avm2_machine.specs.declared.machine.Load.TheVariants as load
 use Rattle.avm2_machine.specs.declared.machine.Machine.{Machine}
@@ -20,22 +19,22 @@ use Rattle.avm2_machine.specs.declared.stage.Object.{Object}
 use Rattle.avm2_machine.specs.declared.stage.Stage.{Stage}
 use Rattle.avm2_machine.specs.Stage.{object_at, slot_named, next_object, with_object, with_value as with_slot_value, changed_at as changed_object_at, with_property, with_child as with_stage_child}
 use Rattle.script_player.specs.Playing.{Config}
-use Rattle.flexc.specs.World.{Kind, Main, Native, Property, Component, World, next_number, with_component, component, numbered, property_named, with_value, changed_at, stored, with_child}
+use Rattle.flexc.specs.World.{Kind, Main, Native, Content, A_text, An_object, Property, Component, World, next_number, with_component, component, numbered, property_named, with_value, changed_at, stored, with_child}
 
 abbrev pub class_of : Kind → Class
 class_of Main = class.File 0
 class_of (Native c) = class.Native c
 
--- the type of a property: the document's are Labels, a Label's is its text
-abbrev pub type_of : Kind → PropertyType
-type_of Main = type.Instance (class.Native native.Label)
-type_of (Native c) = type.Text
+-- the type of what a property holds
+abbrev pub type_of : Content → PropertyType
+type_of A_text = type.Text
+type_of (An_object c) = type.Instance (class.Native c)
 
-abbrev pub slot_of : PropertyType → Property → Slot
-slot_of t p = record { name = p.name; kind = t; value = p.value }
+abbrev pub slot_of : Property → Slot
+slot_of p = record { name = p.name; kind = type_of p.content; value = p.value }
 
 abbrev pub object_of : Component → Object
-object_of c = record { class = class_of c.kind; slots = map (slot_of (type_of c.kind)) c.properties; children = c.children }
+object_of c = record { class = class_of c.kind; slots = map slot_of c.properties; children = c.children }
 
 abbrev pub stage_of : World → Stage
 stage_of w = record { objects = map object_of w.objects; cells = w.cells }
@@ -61,25 +60,25 @@ object_is w o = by o.0
     by zero = refl
     by (suc n) = slice_get-map object_of w.objects n
 
-pub with_object_is : (c : Component) (declared : ℕ) (w : World) → with_object (class_of c.kind) (map (slot_of (type_of c.kind)) c.properties) declared (stage_of w) ≡ stage_of (with_component (record { kind = c.kind; properties = c.properties; children = [] }) (16 + declared) w)
+pub with_object_is : (c : Component) (declared : ℕ) (w : World) → with_object (class_of c.kind) (map slot_of c.properties) declared (stage_of w) ≡ stage_of (with_component (record { kind = c.kind; properties = c.properties; children = [] }) (16 + declared) w)
 with_object_is c declared w =
     ap (λ os. record { objects = os; cells = w.cells + (16 + declared) }) (sym (map-append object_of w.objects (record { kind = c.kind; properties = c.properties; children = [] } ∷ [])))
 
-pub slot_is : (t : PropertyType) (name : List ℕ) (ps : List Property) → slot_named name (map (slot_of t) ps) ≡ option_map (slot_of t) (property_named name ps)
-slot_is t name [] = refl
-slot_is t name (p ∷ ps) = by (slot_is t name ps) (bytes_eq p.name name)
+pub slot_is : (name : List ℕ) (ps : List Property) → slot_named name (map slot_of ps) ≡ option_map slot_of (property_named name ps)
+slot_is name [] = refl
+slot_is name (p ∷ ps) = by (slot_is name ps) (bytes_eq p.name name)
   where
-    by : slot_named name (map (slot_of t) ps) ≡ option_map (slot_of t) (property_named name ps) → (b : Bool) → (if b then Some (slot_of t p) else slot_named name (map (slot_of t) ps)) ≡ option_map (slot_of t) (if b then Some p else property_named name ps)
+    by : slot_named name (map slot_of ps) ≡ option_map slot_of (property_named name ps) → (b : Bool) → (if b then Some (slot_of p) else slot_named name (map slot_of ps)) ≡ option_map slot_of (if b then Some p else property_named name ps)
     by others true = refl
     by others false = others
 
-values_are : (t : PropertyType) (name : List ℕ) (v : Value) (ps : List Property) → with_slot_value name v (map (slot_of t) ps) ≡ map (slot_of t) (with_value name v ps)
-values_are t name v [] = refl
-values_are t name v (p ∷ ps) = by (values_are t name v ps) (bytes_eq p.name name)
+values_are : (name : List ℕ) (v : Value) (ps : List Property) → with_slot_value name v (map slot_of ps) ≡ map slot_of (with_value name v ps)
+values_are name v [] = refl
+values_are name v (p ∷ ps) = by (values_are name v ps) (bytes_eq p.name name)
   where
-    by : with_slot_value name v (map (slot_of t) ps) ≡ map (slot_of t) (with_value name v ps) → (b : Bool) → (if b then record (slot_of t p) { value = v } ∷ map (slot_of t) ps else slot_of t p ∷ with_slot_value name v (map (slot_of t) ps)) ≡ map (slot_of t) (if b then record p { value = v } ∷ ps else p ∷ with_value name v ps)
+    by : with_slot_value name v (map slot_of ps) ≡ map slot_of (with_value name v ps) → (b : Bool) → (if b then record (slot_of p) { value = v } ∷ map slot_of ps else slot_of p ∷ with_slot_value name v (map slot_of ps)) ≡ map slot_of (if b then record p { value = v } ∷ ps else p ∷ with_value name v ps)
     by others true = refl
-    by others false = ap (λ l. slot_of t p ∷ l) others
+    by others false = ap (λ l. slot_of p ∷ l) others
 
 changes_are : (f : Object → Object) (g : Component → Component) → ((c : Component) → f (object_of c) ≡ object_of (g c)) → (cs : List Component) (n : ℕ) → changed_object_at f (map object_of cs) n ≡ map object_of (changed_at g cs n)
 changes_are f g e [] n = refl
@@ -91,7 +90,7 @@ stored_is zero name v w = refl
 stored_is (suc n) name v w =
     ap (λ os. record { objects = os; cells = w.cells })
     (changes_are (λ object. record object { slots = with_slot_value name v object.slots }) (λ c. record c { properties = with_value name v c.properties })
-    (λ c. ap (λ l. record { class = class_of c.kind; slots = l; children = c.children }) (values_are (type_of c.kind) name v c.properties)) w.objects n)
+    (λ c. ap (λ l. record { class = class_of c.kind; slots = l; children = c.children }) (values_are name v c.properties)) w.objects n)
 
 pub with_child_is : (n : ℕ) (child : ObjId) (w : World) → with_stage_child (record { 0 = n }) child (stage_of w) ≡ stage_of (with_child (record { 0 = n }) child w)
 with_child_is zero child w = refl

@@ -14,7 +14,7 @@ use Rattle.flexc.specs.declared.command.Failure.TheVariants as failure
 use Rattle.flex_edge.specs.declared.input.ReadRefusal.{ReadRefusal}
 use Rattle.flex_edge.specs.declared.input.ReadRefusal.TheVariants as read
 use Rattle.flex_edge.specs.declared.output.WriteRefusal.{WriteRefusal}
-use Rattle.flexc.specs.declared.source.Document.{Document}
+use Rattle.flex_front.specs.declared.document.Document.{Document}
 
 -- no file was made or changed in either part
 none_made : (old mid new : FilesState) → MakesNone old mid → MakesNone mid new → MakesNone old new

@@ -7,17 +7,18 @@ use Rattle.std.proofs.lemmas.Int.{fits_signed_from_abs}
 use Rattle.std.proofs.lemmas.List.Elements.{All-nil, All-cons, All-from_recursion}
 use Rattle.abc_format.specs.Spelling.{abc_bytes}
 use Rattle.abc_format.specs.declared.records.Multiname.TheVariants.{QName}
-use Rattle.flexc.specs.declared.source.Label.{Label}
+use Rattle.flex_front.specs.declared.document.Element.{Element}
 use Rattle.avm2_code.specs.declared.instruction.Instruction.TheVariants.{ReturnVoid}
 use Rattle.script_player.specs.AbcLaws.{IsU30, IsList, IsInt, IsText, IsNamespace, IsMultiname, IsPool, IsMethod, IsMetadata, IsItem, IsTrait, IsInstance, IsClass, IsScript, IsBody, IsWritten}
-use Rattle.flexc.specs.Source.{IsShort}
-use Rattle.flexc.specs.Emitted.{encode_all, each_from, fixed_names, fixed_strings, label_strings, namespaces, id_string, id_trait, building_trait, class_trait, plain_method, bindable, class_info, script_info, instance_of, instance_traits, script_code, constructor_code, building_code, body, bodies_of, pool_of, abc_of}
+use Rattle.flex_front.specs.Source.{IsShort}
+use Rattle.flexc.specs.Emitted.{encode_all, each_from, class_number, fixed_names, fixed_strings, element_strings, namespaces, id_string, id_trait, building_trait, class_trait, plain_method, bindable, class_info, script_info, instance_of, instance_traits, script_code, constructor_code, building_code, body, bodies_of, pool_of, abc_of}
+use Rattle.flexc.proofs.Encodable.{class_number-low}
 use Rattle.flexc.proofs.Sizes.{Within, each_from-length, each_from-all}
 use Rattle.flexc.proofs.WrittenSize.{IsBrief, encode_all-within, building_code-within, instance_traits-length, instance_traits-all, names-length, names-all, strings-length, strings-brief, abc-within}
 
 -- the ABC of a document isn't long
-pub length-abc_bytes : (labels : List Label) → length labels ≤ 100 → All IsShort labels → length (abc_bytes (abc_of labels)) ≤ 1000000
-length-abc_bytes labels few short = let w = abc-within labels few short in let h = w.within in omega arith
+pub length-abc_bytes : (es : List Element) → length es ≤ 100 → All IsShort es → length (abc_bytes (abc_of es)) ≤ 1000000
+length-abc_bytes es few short = let w = abc-within es few short in let h = w.within in omega arith
 
 -- a list of none
 is_empty : {A : Type 0} (P : A → Type 0) → IsList P []
@@ -46,10 +47,10 @@ ints-written count few =
     }
 
 -- the strings of the pool
-strings-written : (labels : List Label) → length labels ≤ 100 → All IsShort labels → IsList IsText (fixed_strings ++ flat_map label_strings labels)
-strings-written labels few short =
-    let e = strings-length labels in
-    let brief = strings-brief labels short in
+strings-written : (es : List Element) → length es ≤ 100 → All IsShort es → IsList IsText (fixed_strings ++ flat_map element_strings es)
+strings-written es few short =
+    let e = strings-length es in
+    let brief = strings-brief es short in
     let text : (t : List ℕ) → IsBrief t → IsText t = λ t b. let h = b.short in record { short = omega arith; valid = b.valid } in
     record { short = omega arith; each = λ k d lt. text _ (brief k d lt) }
 
@@ -68,15 +69,15 @@ names-written count few =
     record { short = omega arith; each = names-all IsMultiname count few (λ namespace name lt less. (low namespace lt, low name less)) }
 
 -- the pool
-pool-written : (labels : List Label) → length labels ≤ 100 → All IsShort labels → IsPool (pool_of labels)
-pool-written labels few short = record {
-  integers = ints-written (length labels) few;
+pool-written : (es : List Element) → length es ≤ 100 → All IsShort es → IsPool (pool_of es)
+pool-written es few short = record {
+  integers = ints-written (length es) few;
   unsigned_integers = refl;
   doubles = refl;
-  strings = strings-written labels few short;
+  strings = strings-written es few short;
   namespaces = namespaces-written;
   namespace_sets = refl;
-  multinames = names-written (length labels) few;
+  multinames = names-written (length es) few;
 }
 
 -- the methods
@@ -95,11 +96,11 @@ method-written = record {
 metadata-written : IsMetadata bindable
 metadata-written = record { name = low 9 (omega arith); items = is_empty IsItem }
 
--- the slot of a Label's id
-id_trait-written : (k : ℕ) → k < 100 → IsTrait (id_trait k)
-id_trait-written k lt = record {
+-- the slot of an element's id
+id_trait-written : (k : ℕ) (e : Element) → k < 100 → IsTrait (id_trait k e)
+id_trait-written k e lt = let c = class_number-low e in record {
   name = record { below = omega arith };
-  kind = (low 0 (omega arith), low 3 (omega arith), refl, refl);
+  kind = (low 0 (omega arith), low (class_number e) (omega arith), refl, refl);
   attributes = omega arith;
   metadata = is_single IsU30 0 (low 0 (omega arith));
   none = λ e. absurd (omega arith);
@@ -126,21 +127,21 @@ class_trait-written = record {
 }
 
 -- the traits of the instance
-traits-written : (count : ℕ) → count ≤ 100 → IsList IsTrait (instance_traits count)
-traits-written count few =
-    let e = instance_traits-length count in
-    record { short = omega arith; each = instance_traits-all IsTrait count few id_trait-written building_trait-written }
+traits-written : (es : List Element) → length es ≤ 100 → IsList IsTrait (instance_traits es)
+traits-written es few =
+    let e = instance_traits-length es in
+    record { short = omega arith; each = instance_traits-all IsTrait es few id_trait-written building_trait-written }
 
 -- the instance
-instance-written : (count : ℕ) → count ≤ 100 → IsInstance (instance_of count)
-instance-written count few = record {
+instance-written : (es : List Element) → length es ≤ 100 → IsInstance (instance_of es)
+instance-written es few = record {
   name = low 1 (omega arith);
   super_name = low 2 (omega arith);
   unprotected = refl;
   protected_namespace = refl;
   interfaces = is_empty IsU30;
   iinit = low 2 (omega arith);
-  traits = traits-written count few;
+  traits = traits-written es few;
 }
 
 -- the class
@@ -166,8 +167,8 @@ body-written method max_stack local_count most code is_method is_stack is_count 
 }
 
 -- the bodies
-bodies-written : (count : ℕ) → count ≤ 100 → IsList IsBody (bodies_of count)
-bodies-written count few =
+bodies-written : (es : List Element) → length es ≤ 100 → IsList IsBody (bodies_of es)
+bodies-written es few =
     let script = encode_all script_code in
     let static = encode_all (ReturnVoid ∷ []) in
     let constructor = encode_all constructor_code in
@@ -176,21 +177,21 @@ bodies-written count few =
     (body 0 2 1 script)
     (body 1 0 1 static)
     (body 2 1 1 constructor)
-    (body 3 4 2 (encode_all (building_code count)))
+    (body 3 4 2 (encode_all (building_code es)))
     (body-written 0 2 1 105 script (omega arith) (omega arith) (omega arith) (encode_all-within script_code) (omega arith))
     (body-written 1 0 1 21 static (omega arith) (omega arith) (omega arith) (encode_all-within (ReturnVoid ∷ [])) (omega arith))
     (body-written 2 1 1 105 constructor (omega arith) (omega arith) (omega arith) (encode_all-within constructor_code) (omega arith))
-    (body-written 3 4 2 (294 * count + 21) (encode_all (building_code count)) (omega arith) (omega arith) (omega arith) (building_code-within count) (omega arith))
+    (body-written 3 4 2 (294 * length es + 21) (encode_all (building_code es)) (omega arith) (omega arith) (omega arith) (building_code-within es) (omega arith))
 
 -- the ABC of a document is of the forms that are read back
-pub abc_is_written : (labels : List Label) → length labels ≤ 100 → All IsShort labels → IsWritten (abc_of labels)
-abc_is_written labels few short = record {
-  constant_pool = pool-written labels few short;
+pub abc_is_written : (es : List Element) → length es ≤ 100 → All IsShort es → IsWritten (abc_of es)
+abc_is_written es few short = record {
+  constant_pool = pool-written es few short;
   methods = is_four IsMethod plain_method plain_method plain_method plain_method method-written method-written method-written method-written;
   metadata = is_single IsMetadata bindable metadata-written;
-  instances = is_single IsInstance (instance_of (length labels)) (instance-written (length labels) few);
+  instances = is_single IsInstance (instance_of es) (instance-written es few);
   classes = is_single IsClass class_info class-written;
   as_many = refl;
   scripts = is_single IsScript script_info script-written;
-  method_bodies = bodies-written (length labels) few;
+  method_bodies = bodies-written es few;
 }

@@ -1,6 +1,6 @@
 -- How many bytes the ABC of a document has at most.
 use Rattle.std.proofs.Common.{◌≡◌, ℕ, ◌+◌, ◌*◌, ◌<◌, ◌≤◌, List, [], ◌∷◌, ◌++◌, length, refl, arith, length-append}
-use Rattle.std.specs.Prelude.{nat_lt, true, All, pos, codes}
+use Rattle.std.specs.Prelude.{nat_lt, true, None, Some, All, pos, codes}
 use Rattle.std.specs.Str.{IsAscii, IsUtf8}
 use Rattle.std.proofs.lemmas.Bool.{ltb-true}
 use Rattle.std.proofs.lemmas.Str.{IsUtf8-from_ascii}
@@ -14,14 +14,15 @@ use Rattle.abc_format.specs.Spelling.{counted, table, string_bytes_of, namespace
 use Rattle.abc_format.specs.declared.records.Multiname.{Multiname}
 use Rattle.abc_format.specs.declared.records.Multiname.TheVariants.{QName}
 use Rattle.abc_format.specs.declared.records.Trait.{Trait}
-use Rattle.flexc.specs.declared.source.Label.{Label}
-use Rattle.flexc.specs.Source.{IsShort}
+use Rattle.flex_front.specs.declared.document.Element.{Element}
+use Rattle.flex_front.specs.declared.document.Element.TheVariants.{Label, Button}
+use Rattle.flex_front.specs.Source.{IsShort}
 use Rattle.avm2_code.specs.declared.instruction.Instruction.{Instruction}
 use Rattle.avm2_code.specs.declared.instruction.Instruction.TheVariants.{ReturnVoid}
 use Rattle.avm2_code.specs.Writing.{encode}
 use Rattle.avm2_code.proofs.Sizes.{instruction-length}
-use Rattle.flexc.specs.Emitted.{encode_all, each_from, id_name, id_trait, building_trait, class_trait, plain_method, bindable, class_info, script_info, instance_of, instance_traits, label_code, building_code, script_code, constructor_code, body, bodies_of, namespaces, id_string, fixed_names, fixed_strings, label_strings, main_text, pool_of, abc_of}
-use Rattle.flexc.proofs.Sizes.{Within, loosen, none, one, ◌⊕◌, u30-within, int-within, counted-within, table-within, empty-within, each_from-long, each_from-length, each_from-all}
+use Rattle.flexc.specs.Emitted.{encode_all, each_from, each_element, class_number, id_name, id_trait, building_trait, class_trait, plain_method, bindable, class_info, script_info, instance_of, instance_traits, element_code, building_code, script_code, constructor_code, body, bodies_of, namespaces, id_string, fixed_names, fixed_strings, element_strings, main_text, pool_of, abc_of}
+use Rattle.flexc.proofs.Sizes.{Within, loosen, none, one, ◌⊕◌, u30-within, int-within, counted-within, table-within, empty-within, each_from-length, each_from-all, each_element-length, each_element-short, each_element-all}
 
 -- so many instructions
 pub encode_all-within : (is : List Instruction) → Within (21 * length is) (encode_all is)
@@ -30,12 +31,18 @@ encode_all-within (i ∷ is) =
     let first : Within 21 (encode i) = record { within = instruction-length i } in
     loosen (first ⊕ encode_all-within is) (omega arith)
 
--- the code that builds so many Labels
-pub building_code-length : (count : ℕ) → length (building_code count) ≡ 14 * count + 1
-building_code-length count = let e = each_from-long label_code 14 0 count (λ k. refl) in omega (arith, e, length-append (each_from label_code 0 count) (ReturnVoid ∷ []))
+-- how many instructions an element takes
+element_code-length : (k : ℕ) (e : Element) → length (element_code k e) ≤ 14
+element_code-length k (Label id text) = omega arith
+element_code-length k (Button id click) = omega arith
 
-pub building_code-within : (count : ℕ) → Within (294 * count + 21) (encode_all (building_code count))
-building_code-within count = loosen (encode_all-within (building_code count)) (omega (arith, building_code-length count))
+-- the code that builds the elements
+pub building_code-length : (es : List Element) → length (building_code es) ≤ 14 * length es + 1
+building_code-length es =
+    omega (arith, each_element-short element_code 14 0 es element_code-length, length-append (each_element element_code 0 es) (ReturnVoid ∷ []))
+
+pub building_code-within : (es : List Element) → Within (294 * length es + 21) (encode_all (building_code es))
+building_code-within es = loosen (encode_all-within (building_code es)) (omega (arith, building_code-length es))
 
 -- the size of a method
 method-within : Within 16 (method_bytes plain_method)
@@ -46,9 +53,9 @@ metadata-within : Within 15 (metadata_bytes bindable)
 metadata-within = let h = u30-within 9 ⊕ (u30-within 0 ⊕ none) in loosen h (omega arith)
 
 -- a slot with one number of metadata
-id_trait-within : (k : ℕ) → Within 40 (trait_bytes (id_trait k))
-id_trait-within k =
-    let slot = u30-within 0 ⊕ u30-within 3 ⊕ (u30-within 0 ⊕ none) in
+id_trait-within : (k : ℕ) (e : Element) → Within 40 (trait_bytes (id_trait k e))
+id_trait-within k e =
+    let slot = u30-within 0 ⊕ u30-within (class_number e) ⊕ (u30-within 0 ⊕ none) in
     let metadata = u30-within 1 ⊕ (u30-within 0 ⊕ none) in
     let h = u30-within (id_name k) ⊕ one 64 ⊕ slot ⊕ metadata in
     loosen h (omega arith)
@@ -61,29 +68,29 @@ building_trait-within = let h = u30-within 6 ⊕ one 1 ⊕ (u30-within 0 ⊕ u30
 class_trait-within : Within 40 (trait_bytes class_trait)
 class_trait-within = let h = u30-within 1 ⊕ one 4 ⊕ (u30-within 0 ⊕ u30-within 0) ⊕ none in loosen h (omega arith)
 
--- a slot for each Label, and the method that builds them
-pub instance_traits-length : (count : ℕ) → length (instance_traits count) ≡ count + 1
-instance_traits-length count =
-    let e = each_from-length id_trait 0 count in
-    omega (arith, length-append (each_from (λ k. id_trait k ∷ []) 0 count) (building_trait ∷ []))
+-- a slot for each element, and the method that builds them
+pub instance_traits-length : (es : List Element) → length (instance_traits es) ≡ length es + 1
+instance_traits-length es =
+    let e = each_element-length id_trait 0 es in
+    omega (arith, length-append (each_element (λ k x. id_trait k x ∷ []) 0 es) (building_trait ∷ []))
 
 -- what holds of the slots and of the method holds of all the traits
-pub instance_traits-all : (P : Trait → Type 0) (count : ℕ) → count ≤ 100 → ((k : ℕ) → k < 100 → P (id_trait k)) → P building_trait → All P (instance_traits count)
-instance_traits-all P count few slot method =
-    let slots = each_from-all P id_trait 0 count 100 (omega arith) slot in
-    All-append P (each_from (λ k. id_trait k ∷ []) 0 count) (building_trait ∷ []) slots (All-cons P building_trait [] method (All-nil P))
+pub instance_traits-all : (P : Trait → Type 0) (es : List Element) → length es ≤ 100 → ((k : ℕ) (e : Element) → k < 100 → P (id_trait k e)) → P building_trait → All P (instance_traits es)
+instance_traits-all P es few slot method =
+    let slots = each_element-all P id_trait 0 100 es (omega arith) slot in
+    All-append P (each_element (λ k x. id_trait k x ∷ []) 0 es) (building_trait ∷ []) slots (All-cons P building_trait [] method (All-nil P))
 
 -- the size of all the traits of the instance
-traits-within : (count : ℕ) → count ≤ 100 → Within 4045 (counted trait_bytes (instance_traits count))
-traits-within count few =
-    let all = instance_traits-all (λ t. Within 40 (trait_bytes t)) count few (λ k lt. id_trait-within k) building_trait-within in
-    let e = instance_traits-length count in
-    counted-within trait_bytes 40 101 (instance_traits count) all (omega arith)
+traits-within : (es : List Element) → length es ≤ 100 → Within 4045 (counted trait_bytes (instance_traits es))
+traits-within es few =
+    let all = instance_traits-all (λ t. Within 40 (trait_bytes t)) es few (λ k e lt. id_trait-within k e) building_trait-within in
+    let e = instance_traits-length es in
+    counted-within trait_bytes 40 101 (instance_traits es) all (omega arith)
 
 -- the size of the instance
-instance-within : (count : ℕ) → count ≤ 100 → Within 4100 (instance_bytes (instance_of count))
-instance-within count few =
-    let h = u30-within 1 ⊕ u30-within 2 ⊕ one 1 ⊕ none ⊕ (u30-within 0 ⊕ none) ⊕ u30-within 2 ⊕ traits-within count few in
+instance-within : (es : List Element) → length es ≤ 100 → Within 4100 (instance_bytes (instance_of es))
+instance-within es few =
+    let h = u30-within 1 ⊕ u30-within 2 ⊕ one 1 ⊕ none ⊕ (u30-within 0 ⊕ none) ⊕ u30-within 2 ⊕ traits-within es few in
     loosen h (omega arith)
 
 -- the size of the class
@@ -102,12 +109,12 @@ body-within method max_stack local_count most code w =
     loosen h (omega arith)
 
 -- the size of all the bodies
-bodies-within : (count : ℕ) → count ≤ 100 → Within 30000 (counted body_bytes (bodies_of count))
-bodies-within count few =
+bodies-within : (es : List Element) → length es ≤ 100 → Within 30000 (counted body_bytes (bodies_of es))
+bodies-within es few =
     let script = body-within 0 2 1 105 (encode_all script_code) (encode_all-within script_code) in
     let static = body-within 1 0 1 21 (encode_all (ReturnVoid ∷ [])) (encode_all-within (ReturnVoid ∷ [])) in
     let constructor = body-within 2 1 1 105 (encode_all constructor_code) (encode_all-within constructor_code) in
-    let building = body-within 3 4 2 (294 * count + 21) (encode_all (building_code count)) (building_code-within count) in
+    let building = body-within 3 4 2 (294 * length es + 21) (encode_all (building_code es)) (building_code-within es) in
     let h = u30-within 4 ⊕ (script ⊕ (static ⊕ (constructor ⊕ (building ⊕ none)))) in
     loosen h (omega arith)
 
@@ -135,7 +142,10 @@ names-all P count few each =
             each 1 5 (omega arith) (omega arith),
             (
               each 3 7 (omega arith) (omega arith),
-              (each 3 8 (omega arith) (omega arith), tt),
+              (
+                each 3 8 (omega arith) (omega arith),
+                (each 2 10 (omega arith) (omega arith), tt),
+              ),
             ),
           ),
         ),
@@ -145,7 +155,7 @@ names-all P count few each =
     All-append P fixed_names (each_from (λ k. QName 1 (id_string k) ∷ []) 0 count) fixed others
 
 -- how many names the pool has
-pub names-length : (count : ℕ) → length (fixed_names ++ each_from (λ k. QName 1 (id_string k) ∷ []) 0 count) ≡ count + 6
+pub names-length : (count : ℕ) → length (fixed_names ++ each_from (λ k. QName 1 (id_string k) ∷ []) 0 count) ≡ count + 7
 names-length count = let e = each_from-length (λ k. QName 1 (id_string k)) 0 count in omega arith
 
 -- the size of all the names
@@ -154,7 +164,7 @@ names-within count few =
     let names = fixed_names ++ each_from (λ k. QName 1 (id_string k) ∷ []) 0 count in
     let e = names-length count in
     let all = names-all (λ m. Within 11 (multiname_bytes m)) count few (λ namespace name lt less. qname-within namespace name) in
-    loosen (table-within multiname_bytes 11 106 names all (omega arith)) (omega arith)
+    loosen (table-within multiname_bytes 11 107 names all (omega arith)) (omega arith)
 
 -- the size of all the ints
 ints-within : (count : ℕ) → count ≤ 100 → Within 505 (table int_bytes (each_from (λ k. pos k ∷ []) 0 count))
@@ -174,25 +184,15 @@ string-within text brief =
     let h : Within 200 text = record { within = brief.short } in
     u30-within (length text) ⊕ h
 
--- a Label has two strings
-label_strings-length : (labels : List Label) → length (flat_map label_strings labels) ≡ 2 * length labels
-label_strings-length [] = refl
-label_strings-length (label ∷ labels) = let e = label_strings-length labels in omega arith
-
--- no string of a short Label is long
-label_strings-brief : (labels : List Label) → All IsShort labels → All IsBrief (flat_map label_strings labels)
-label_strings-brief [] all = All-nil IsBrief
-label_strings-brief (label ∷ labels) all =
-    let short = All-head IsShort label labels all in
-    let id : length label.id ≤ 32 = short.id in
-    let brief_id : IsBrief label.id = record { short = omega arith; valid = short.id_valid } in
-    let brief_text : IsBrief label.text = record { short = short.text; valid = short.text_valid } in
-    let others = label_strings-brief labels (All-tail IsShort label labels all) in
-    All-append IsBrief (label_strings label) (flat_map label_strings labels) (All-from_recursion IsBrief (label_strings label) (brief_id, (brief_text, tt))) others
+-- an element has two strings
+element_strings-length : (es : List Element) → length (flat_map element_strings es) ≡ 2 * length es
+element_strings-length [] = refl
+element_strings-length (Label id text ∷ es) = let e = element_strings-length es in omega arith
+element_strings-length (Button id click ∷ es) = let e = element_strings-length es in omega arith
 
 -- how many strings the pool has
-pub strings-length : (labels : List Label) → length (fixed_strings ++ flat_map label_strings labels) ≡ 9 + 2 * length labels
-strings-length labels = let e = label_strings-length labels in omega arith
+pub strings-length : (es : List Element) → length (fixed_strings ++ flat_map element_strings es) ≡ 10 + 2 * length es
+strings-length es = let e = element_strings-length es in omega arith
 
 -- a text of ASCII
 pub text-brief : (text : List ℕ) → list_all (λ b. nat_lt b 128) text ≡ true → length text ≤ 200 → IsBrief text
@@ -201,9 +201,28 @@ text-brief text e short =
     let ascii : IsAscii text = IsAscii-from_all text (λ k d lt. ltb-true _ 128 (pass k d lt)) in
     record { short = short; valid = IsUtf8-from_ascii text ascii }
 
+-- an id that isn't too long
+id-brief : (id : List ℕ) → length id ≤ 32 → IsUtf8 id → IsBrief id
+id-brief id short valid = record { short = omega arith; valid = valid }
+
+-- neither string of a short element is long
+pair-brief : (e : Element) → IsShort e → All IsBrief (element_strings e)
+pair-brief (Label id text) short =
+    let brief : IsBrief text = record { short = short.2; valid = short.3 } in
+    All-from_recursion IsBrief (id ∷ text ∷ []) (id-brief id short.0 short.1, (brief, tt))
+pair-brief (Button id None) short = All-from_recursion IsBrief (id ∷ [] ∷ []) (id-brief id short.0 short.1, (text-brief [] refl (omega arith), tt))
+pair-brief (Button id (Some text)) short = All-from_recursion IsBrief (id ∷ [] ∷ []) (id-brief id short.0 short.1, (text-brief [] refl (omega arith), tt))
+
+-- no string of short elements is long
+element_strings-brief : (es : List Element) → All IsShort es → All IsBrief (flat_map element_strings es)
+element_strings-brief [] all = All-nil IsBrief
+element_strings-brief (e ∷ es) all =
+    let here = pair-brief e (All-head IsShort e es all) in
+    All-append IsBrief (element_strings e) (flat_map element_strings es) here (element_strings-brief es (All-tail IsShort e es all))
+
 -- no string of the pool is long
-pub strings-brief : (labels : List Label) → All IsShort labels → All IsBrief (fixed_strings ++ flat_map label_strings labels)
-strings-brief labels all =
+pub strings-brief : (es : List Element) → All IsShort es → All IsBrief (fixed_strings ++ flat_map element_strings es)
+strings-brief es all =
     let fixed = All-from_recursion IsBrief fixed_strings (
       text-brief main_text refl (omega arith),
       (
@@ -220,7 +239,10 @@ strings-brief labels all =
                   text-brief (codes "place") refl (omega arith),
                   (
                     text-brief (codes "#building") refl (omega arith),
-                    (text-brief (codes "Bindable") refl (omega arith), tt),
+                    (
+                      text-brief (codes "Bindable") refl (omega arith),
+                      (text-brief (codes "Button") refl (omega arith), tt),
+                    ),
                   ),
                 ),
               ),
@@ -229,32 +251,32 @@ strings-brief labels all =
         ),
       ),
     ) in
-    All-append IsBrief fixed_strings (flat_map label_strings labels) fixed (label_strings-brief labels all)
+    All-append IsBrief fixed_strings (flat_map element_strings es) fixed (element_strings-brief es all)
 
 -- the size of all the strings
-strings-within : (labels : List Label) → length labels ≤ 100 → All IsShort labels → Within 43000 (table string_bytes_of (fixed_strings ++ flat_map label_strings labels))
-strings-within labels few all =
-    let strings = fixed_strings ++ flat_map label_strings labels in
-    let e = strings-length labels in
-    let brief = strings-brief labels all in
+strings-within : (es : List Element) → length es ≤ 100 → All IsShort es → Within 43100 (table string_bytes_of (fixed_strings ++ flat_map element_strings es))
+strings-within es few all =
+    let strings = fixed_strings ++ flat_map element_strings es in
+    let e = strings-length es in
+    let brief = strings-brief es all in
     let each : All (λ t. Within 205 (string_bytes_of t)) strings = λ k d lt. string-within _ (brief k d lt) in
-    loosen (table-within string_bytes_of 205 209 strings each (omega arith)) (omega arith)
+    loosen (table-within string_bytes_of 205 210 strings each (omega arith)) (omega arith)
 
 -- the size of the pool
-pool-within : (labels : List Label) → length labels ≤ 100 → All IsShort labels → Within 45000 (pool_bytes (pool_of labels))
-pool-within labels few all =
-    let numbers = ints-within (length labels) few ⊕ empty-within u30_bytes ⊕ empty-within (little_bytes 8) in
-    let h = numbers ⊕ strings-within labels few all ⊕ namespaces-within ⊕ empty-within (counted u30_bytes) ⊕ names-within (length labels) few in
+pool-within : (es : List Element) → length es ≤ 100 → All IsShort es → Within 45000 (pool_bytes (pool_of es))
+pool-within es few all =
+    let numbers = ints-within (length es) few ⊕ empty-within u30_bytes ⊕ empty-within (little_bytes 8) in
+    let h = numbers ⊕ strings-within es few all ⊕ namespaces-within ⊕ empty-within (counted u30_bytes) ⊕ names-within (length es) few in
     loosen h (omega arith)
 
 -- the size of the ABC of a document
-pub abc-within : (labels : List Label) → length labels ≤ 100 → All IsShort labels → Within 100000 (abc_bytes (abc_of labels))
-abc-within labels few all =
+pub abc-within : (es : List Element) → length es ≤ 100 → All IsShort es → Within 100000 (abc_bytes (abc_of es))
+abc-within es few all =
     let methods = u30-within 4 ⊕ (method-within ⊕ (method-within ⊕ (method-within ⊕ (method-within ⊕ none)))) in
     let metadata = u30-within 1 ⊕ (metadata-within ⊕ none) in
-    let instances = instance-within (length labels) few ⊕ none in
+    let instances = instance-within es few ⊕ none in
     let scripts = u30-within 1 ⊕ (script-within ⊕ none) in
     let version : Within 4 (little_bytes 2 16 ++ little_bytes 2 46) = record { within = omega arith } in
-    let front = version ⊕ pool-within labels few all ⊕ methods ⊕ metadata in
-    let h = front ⊕ u30-within 1 ⊕ instances ⊕ (class-within ⊕ none) ⊕ scripts ⊕ bodies-within (length labels) few in
+    let front = version ⊕ pool-within es few all ⊕ methods ⊕ metadata in
+    let h = front ⊕ u30-within 1 ⊕ instances ⊕ (class-within ⊕ none) ⊕ scripts ⊕ bodies-within es few in
     loosen h (omega arith)

@@ -1,5 +1,5 @@
 -- What `command` does and answers.
-use Rattle.std.specs.Prelude.{◌≡◌, ◌≢◌, ℕ, ◌<◌, ◌≤◌, List, [], ◌∷◌, ◌++◌, length, map, IsTrue, Some, Result, Ok, Err, String, codes, ◌⊎◌}
+use Rattle.std.specs.Prelude.{◌≡◌, ◌≢◌, ℕ, ◌<◌, ◌≤◌, List, [], ◌++◌, length, IsTrue, Some, Result, Ok, Err, codes, ◌⊎◌}
 use Rattle.flex_base.specs.declared.outcome.Outcome.{Outcome}
 use Rattle.flex_base.specs.declared.outcome.Outcome.TheVariants.{Ended, Stopped, TurnsSpent, Fault}
 use Rattle.flex_edge.specs.Outside.{Rose, FilesState, SinkState}
@@ -9,7 +9,7 @@ use Rattle.flex_edge.specs.declared.input.ReadRefusal.{ReadRefusal}
 use Rattle.flex_edge.specs.declared.input.ReadRefusal.TheVariants as read
 use Rattle.flex_edge.specs.declared.output.WriteRefusal.{WriteRefusal}
 use Rattle.flex_edge.specs.declared.output.WriteRefusal.TheVariants as write
-use Rattle.flexc.specs.declared.source.Document.{Document}
+use Rattle.flex_front.specs.declared.document.Document.{Document}
 use Rattle.flexc.specs.Meaning.{source_trace}
 use Rattle.flexc.specs.PlaysAs.{PlaysAs}
 use Rattle.flexc.specs.Words.{AreWords, IsNoCommand, turns}

@@ -15,7 +15,8 @@ use Rattle.abc_format.specs.declared.records.ScriptInfo.{ScriptInfo}
 use Rattle.abc_format.specs.declared.records.MethodBody.{MethodBody}
 use Rattle.abc_format.specs.declared.records.Trait.{Trait}
 use Rattle.abc_format.specs.declared.records.TraitKind.TheVariants as trait_kind
-use Rattle.flexc.specs.declared.source.Label.{Label}
+use Rattle.flex_front.specs.declared.document.Element.{Element}
+use Rattle.flex_front.specs.declared.document.Element.TheVariants as element
 use Rattle.avm2_code.specs.declared.instruction.Instruction.{Instruction}
 use Rattle.avm2_code.specs.declared.instruction.Instruction.TheVariants as instruction
 use Rattle.avm2_code.specs.Writing.{encode}
@@ -29,6 +30,11 @@ abbrev pub each_from : {A : Type 0} → (ℕ → List A) → ℕ → ℕ → Lis
 each_from f k zero = []
 each_from f k (suc n) = f k ++ each_from f (suc k) n
 
+-- what f gives for each element, where the first has the number k
+abbrev pub each_element : {A : Type 0} → (ℕ → Element → List A) → ℕ → List Element → List A
+each_element f k [] = []
+each_element f k (e ∷ es) = f k e ++ each_element f (suc k) es
+
 -- the name of the main class
 abbrev pub main_text : List ℕ
 main_text = codes "Main"
@@ -37,41 +43,48 @@ main_text = codes "Main"
 abbrev pub fixed_strings : List (List ℕ)
 fixed_strings =
     main_text ∷ codes "spark.components" ∷ codes "Application" ∷ codes "Label" ∷ codes "text" ∷ codes "flexc" ∷ codes "place"
-    ∷ codes "#building" ∷ codes "Bindable" ∷ []
+    ∷ codes "#building" ∷ codes "Bindable" ∷ codes "Button" ∷ []
 
-abbrev pub label_strings : Label → List (List ℕ)
-label_strings label = label.id ∷ label.text ∷ []
+-- an element's id and its text, which is empty where it has none
+abbrev pub element_strings : Element → List (List ℕ)
+element_strings (element.Label id text) = id ∷ text ∷ []
+element_strings (element.Button id click) = id ∷ [] ∷ []
 
--- the numbers of a Label's strings, name and int
+-- the numbers of an element's strings, name and int
 abbrev pub id_string : ℕ → ℕ
-id_string k = 10 + 2 * k
+id_string k = 11 + 2 * k
 
 abbrev pub text_string : ℕ → ℕ
-text_string k = 11 + 2 * k
+text_string k = 12 + 2 * k
 
 abbrev pub id_name : ℕ → ℕ
-id_name k = 7 + k
+id_name k = 8 + k
 
 abbrev pub rank_int : ℕ → ℕ
 rank_int k = 1 + k
 
 abbrev pub fixed_names : List Multiname
-fixed_names = QName 1 1 ∷ QName 2 3 ∷ QName 2 4 ∷ QName 1 5 ∷ QName 3 7 ∷ QName 3 8 ∷ []
+fixed_names = QName 1 1 ∷ QName 2 3 ∷ QName 2 4 ∷ QName 1 5 ∷ QName 3 7 ∷ QName 3 8 ∷ QName 2 10 ∷ []
+
+-- the number of the name of an element's class
+abbrev pub class_number : Element → ℕ
+class_number (element.Label id text) = 3
+class_number (element.Button id click) = 7
 
 abbrev pub namespaces : List Namespace
 namespaces =
     record { kind = space_kind.PackageNamespace; name = 0 } ∷ record { kind = space_kind.PackageNamespace; name = 2 }
     ∷ record { kind = space_kind.Namespace; name = 6 } ∷ []
 
-abbrev pub pool_of : List Label → ConstantPool
-pool_of labels = record {
-  integers = each_from (λ k. pos k ∷ []) 0 (length labels);
+abbrev pub pool_of : List Element → ConstantPool
+pool_of es = record {
+  integers = each_from (λ k. pos k ∷ []) 0 (length es);
   unsigned_integers = [];
   doubles = [];
-  strings = fixed_strings ++ flat_map label_strings labels;
+  strings = fixed_strings ++ flat_map element_strings es;
   namespaces = namespaces;
   namespace_sets = [];
-  multinames = fixed_names ++ each_from (λ k. QName 1 (id_string k) ∷ []) 0 (length labels);
+  multinames = fixed_names ++ each_from (λ k. QName 1 (id_string k) ∷ []) 0 (length es);
 }
 
 -- a method without parameters and without a result
@@ -81,20 +94,20 @@ plain_method = record { return_type = 0; param_types = []; name = 0; flags = 0; 
 abbrev pub bindable : MetadataInfo
 bindable = record { name = 9; items = [] }
 
--- the bindable slot of a Label's id
-abbrev pub id_trait : ℕ → Trait
-id_trait k = record { name = id_name k; kind = trait_kind.Slot 0 3 0 0; attributes = 4; metadata = 0 ∷ [] }
+-- the bindable slot of an element's id
+abbrev pub id_trait : ℕ → Element → Trait
+id_trait k e = record { name = id_name k; kind = trait_kind.Slot 0 (class_number e) 0 0; attributes = 4; metadata = 0 ∷ [] }
 
 -- the method that builds the document
 abbrev pub building_trait : Trait
 building_trait = record { name = 6; kind = trait_kind.Method 0 3; attributes = 0; metadata = [] }
 
-abbrev pub instance_traits : ℕ → List Trait
-instance_traits count = each_from (λ k. id_trait k ∷ []) 0 count ++ building_trait ∷ []
+abbrev pub instance_traits : List Element → List Trait
+instance_traits es = each_element (λ k e. id_trait k e ∷ []) 0 es ++ building_trait ∷ []
 
-abbrev pub instance_of : ℕ → InstanceInfo
-instance_of count =
-    record { name = 1; super_name = 2; flags = 1; protected_namespace = 0; interfaces = []; iinit = 2; traits = instance_traits count }
+abbrev pub instance_of : List Element → InstanceInfo
+instance_of es =
+    record { name = 1; super_name = 2; flags = 1; protected_namespace = 0; interfaces = []; iinit = 2; traits = instance_traits es }
 
 abbrev pub class_info : ClassInfo
 class_info = record { cinit = 1; traits = [] }
@@ -114,34 +127,46 @@ abbrev pub constructor_code : List Instruction
 constructor_code =
     instruction.GetLocal0 ∷ instruction.ConstructSuper 0 ∷ instruction.GetLocal0 ∷ instruction.CallPropVoid 6 0 ∷ instruction.ReturnVoid ∷ []
 
--- makes a Label, writes its id and its text, and adds it to the document
-abbrev pub label_code : ℕ → List Instruction
-label_code k =
-    instruction.FindPropStrict 3 ∷ instruction.ConstructProp 3 0 ∷ instruction.SetLocal1 ∷ instruction.GetLocal0 ∷ instruction.GetLocal1
-    ∷ instruction.SetProperty (id_name k) ∷ instruction.GetLocal1 ∷ instruction.PushString (text_string k) ∷ instruction.SetProperty 4
-    ∷ instruction.GetLocal0 ∷ instruction.GetLocal0 ∷ instruction.GetLocal1 ∷ instruction.PushInt (rank_int k) ∷ instruction.CallPropVoid 5 3 ∷ []
+-- makes an element, and writes its id
+abbrev pub making_code : ℕ → Element → List Instruction
+making_code k e =
+    instruction.FindPropStrict (class_number e) ∷ instruction.ConstructProp (class_number e) 0 ∷ instruction.SetLocal1 ∷ instruction.GetLocal0
+    ∷ instruction.GetLocal1 ∷ instruction.SetProperty (id_name k) ∷ []
 
--- builds the Labels one after another
-abbrev pub building_code : ℕ → List Instruction
-building_code count = each_from label_code 0 count ++ instruction.ReturnVoid ∷ []
+-- applies its attributes
+abbrev pub attribute_code : ℕ → Element → List Instruction
+attribute_code k (element.Label id text) = instruction.GetLocal1 ∷ instruction.PushString (text_string k) ∷ instruction.SetProperty 4 ∷ []
+attribute_code k (element.Button id click) = []
+
+-- adds it to the document
+abbrev pub place_code : ℕ → List Instruction
+place_code k =
+    instruction.GetLocal0 ∷ instruction.GetLocal0 ∷ instruction.GetLocal1 ∷ instruction.PushInt (rank_int k) ∷ instruction.CallPropVoid 5 3 ∷ []
+
+abbrev pub element_code : ℕ → Element → List Instruction
+element_code k e = making_code k e ++ (attribute_code k e ++ place_code k)
+
+-- builds the elements one after another
+abbrev pub building_code : List Element → List Instruction
+building_code es = each_element element_code 0 es ++ instruction.ReturnVoid ∷ []
 
 abbrev pub body : ℕ → ℕ → ℕ → List ℕ → MethodBody
 body method max_stack local_count code =
     record { method = method; max_stack = max_stack; local_count = local_count; init_scope_depth = 0; max_scope_depth = 0; code = code; exceptions = []; traits = [] }
 
-abbrev pub bodies_of : ℕ → List MethodBody
-bodies_of count =
+abbrev pub bodies_of : List Element → List MethodBody
+bodies_of es =
     body 0 2 1 (encode_all script_code) ∷ body 1 0 1 (encode_all (instruction.ReturnVoid ∷ [])) ∷ body 2 1 1 (encode_all constructor_code)
-    ∷ body 3 4 2 (encode_all (building_code count)) ∷ []
+    ∷ body 3 4 2 (encode_all (building_code es)) ∷ []
 
--- the ABC of a document with these Labels
-abbrev pub abc_of : List Label → Abc
-abc_of labels = record {
-  constant_pool = pool_of labels;
+-- the ABC of a document with these elements
+abbrev pub abc_of : List Element → Abc
+abc_of es = record {
+  constant_pool = pool_of es;
   methods = plain_method ∷ plain_method ∷ plain_method ∷ plain_method ∷ [];
   metadata = bindable ∷ [];
-  instances = instance_of (length labels) ∷ [];
+  instances = instance_of es ∷ [];
   classes = class_info ∷ [];
   scripts = script_info ∷ [];
-  method_bodies = bodies_of (length labels);
+  method_bodies = bodies_of es;
 }

@@ -1,6 +1,6 @@
 -- A file that plays as a source.
 use Rattle.std.specs.Prelude.{◌≡◌, ℕ, List}
-use Rattle.flexc.specs.declared.source.Document.{Document}
+use Rattle.flex_front.specs.declared.document.Document.{Document}
 use Rattle.flexc.specs.Meaning.{source_trace}
 use Rattle.script_player.specs.Playable.{IsPlayable}
 use Rattle.script_player.specs.Playing.{HasTrace, NeverFaults}

@@ -10,7 +10,7 @@ use Rattle.flexc.specs.declared.command.Status.{Status}
 use Rattle.flex_edge.specs.declared.input.ReadRefusal.{ReadRefusal}
 use Rattle.flex_edge.specs.declared.input.ReadRefusal.TheVariants as read
 use Rattle.flex_edge.specs.declared.output.WriteRefusal.TheVariants as write
-use Rattle.flexc.specs.declared.source.Document.{Document}
+use Rattle.flex_front.specs.declared.document.Document.{Document}
 use Rattle.flexc.specs.Command.{status, HasRead, FailsToRead, HasBuilt, HasWrittenFile, Says, HasNoMemory}
 use Rattle.flexc.specs.Words.{AreWords, IsNoCommand, turns}
 use Rattle.script_player.specs.Printed.{HasPlayed, Plays}

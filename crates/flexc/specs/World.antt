@@ -16,8 +16,14 @@ pub data Kind : Type 0 where
   Main : Kind
   Native : (class : NativeClass) → Kind
 
+-- what a property holds: a text, or an object of a native class
+pub data Content : Type 0 where
+  A_text : Content
+  An_object : (class : NativeClass) → Content
+
 pub record Property : Type 0 where
   pub name : List ℕ
+  pub content : Content
   pub value : Value
 
 pub record Component : Type 0 where

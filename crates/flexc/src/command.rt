@@ -7,18 +7,18 @@ ghost use Rattle.swf_tags.specs.Spelling.{swf_bytes};
 ghost use Rattle.flexc.specs.Command.{Course, HasPrintedTrace, RunsWhole, RunsInPart, RefusesRightly, Says, outcome_status, status};
 ghost use Rattle.flexc.specs.Emitted.{abc_of, main_text};
 ghost use Rattle.flexc.specs.PlaysAs.{PlaysAs};
-ghost use Rattle.flexc.specs.Source.{IsSmall};
+ghost use Rattle.flex_front.specs.Source.{AreNewIds, IsSmall};
 ghost use Rattle.flexc.specs.Words.{texts};
 ghost use Rattle.flex_edge.specs.Whole.{Prints};
 ghost use Rattle.flexc.specs.Work.{ReadsDocument, Reports, Works, read_failure};
 
 use crate::emit::{MAIN, emit};
-use crate::source::{Document, document_of};
+use crate::source::document_of;
 use crate::words::{Run, read_words};
 use abc_format::write_abc;
 use flex_base::{Bytes, NoMemory, Outcome, Text};
 use flex_edge::{Files, Observer, ReadRefusal, Sink, WriteRefusal, print, read_file, write_file};
-use flex_front::SourceRefusal;
+use flex_front::{Document, SourceRefusal};
 use script_player::play;
 use std::alloc::Global;
 use swf_tags::write_swf;
@@ -140,6 +140,7 @@ fn read_document<'a, F: Files>(
 ) -> Result<Document, Failure<'a>>
     ensures read { ReadsDocument run.entry.script.now run.entry.main.now (F.state files.old) result (F.state files.new) }
     ensures small { IfOk result IsSmall }
+    ensures distinct { IfOk result (λ document. AreNewIds [] document.elements) }
 {
     let source = match read_file(alloc, files, run.main) {
         Ok(source) => source,
@@ -174,8 +175,9 @@ fn read_failure<'a>(refusal: ReadRefusal, name: &'a str) -> Failure<'a>
 
 // The SWF file of a document.
 fn build(alloc: Global, document: &Document) -> Result<Bytes, NoMemory>
-    requires { IsSmall document.now }
-    ensures is { IfOk result (λ bytes. bytes ≡ swf_bytes main_text (abc_bytes (abc_of document.now.labels))) }
+    requires small { IsSmall document.now }
+    requires distinct { AreNewIds [] document.now.elements }
+    ensures is { IfOk result (λ bytes. bytes ≡ swf_bytes main_text (abc_bytes (abc_of document.now.elements))) }
     ensures plays { IfOk result (λ bytes. PlaysAs bytes document.now) }
 {
     let abc = emit(alloc, document)?;

@@ -5,22 +5,23 @@ ghost use Rattle.std.specs.List.{flat_map};
 ghost use Rattle.avm2_code.specs.Assembly.{FitsForm};
 ghost use Rattle.avm2_code.specs.Table.{operands};
 ghost use Rattle.avm2_code.specs.declared.parts.Part.{Part};
-ghost use Rattle.flexc.specs.Emitted.{encode_all, each_from, fixed_strings, label_strings, id_string, text_string, id_name, rank_int, fixed_names, namespaces, pool_of, plain_method, bindable, id_trait, building_trait, instance_traits, instance_of, class_info, script_info, label_code, building_code, body, bodies_of, abc_of};
+ghost use Rattle.avm2_code.specs.declared.instruction.Instruction.TheVariants.{GetLocal1, PushString, SetProperty};
+ghost use Rattle.flexc.specs.Emitted.{encode_all, each_from, each_element, fixed_strings, element_strings, class_number, id_string, text_string, id_name, rank_int, fixed_names, namespaces, pool_of, plain_method, bindable, id_trait, building_trait, instance_traits, instance_of, class_info, script_info, making_code, attribute_code, place_code, element_code, building_code, body, bodies_of, abc_of};
 
-use crate::source::{Document, Label};
 use abc_format::{
     Abc, ClassInfo, ConstantPool, InstanceInfo, MetadataInfo, MethodBody, MethodInfo, Multiname,
     Namespace, NamespaceKind, ScriptInfo, Trait, TraitKind,
 };
 use avm2_code::{Instruction, Part, Parts, assemble};
 use flex_base::{Bytes, NoMemory, Sequence, Text};
+use flex_front::{Document, Element};
 use std::alloc::Global;
 
 /// The name of the main class.
 pub const MAIN: &str = "Main";
 
-// The strings that every pool begins with are numbered from 1 on. Behind them stand each Label's id
-// and text.
+// The strings that every pool begins with are numbered from 1 on. Behind them stand each element's
+// id and text.
 const MAIN_STRING: u32 = 1;
 
 const COMPONENTS_STRING: u32 = 2;
@@ -38,6 +39,8 @@ const PLACE_STRING: u32 = 7;
 const BUILDING_STRING: u32 = 8;
 
 const BINDABLE_STRING: u32 = 9;
+
+const BUTTON_STRING: u32 = 10;
 
 const PUBLIC: u32 = 1;
 
@@ -57,6 +60,8 @@ const PLACE_NAME: u32 = 5;
 
 const BUILDING_NAME: u32 = 6;
 
+const BUTTON_NAME: u32 = 7;
+
 const SCRIPT_INITIALISER: u32 = 0;
 
 const CLASS_INITIALISER: u32 = 1;
@@ -68,90 +73,99 @@ const BUILDING: u32 = 3;
 /// The flag of a class whose instances have no properties but those of its traits.
 const SEALED: u8 = 0x01;
 
-// The number of the string of a Label's id.
-fn id_string(label: u32) -> u32
-    requires { label < 100 }
-    ensures { result ≡ id_string label }
+// The number of the string of an element's id.
+fn id_string(element: u32) -> u32
+    requires { element < 100 }
+    ensures { result ≡ id_string element }
 {
-    10 + 2 * label
+    11 + 2 * element
 }
 
-// The number of the string of a Label's text.
-fn text_string(label: u32) -> u32
-    requires { label < 100 }
-    ensures { result ≡ text_string label }
+// The number of the string of an element's text.
+fn text_string(element: u32) -> u32
+    requires { element < 100 }
+    ensures { result ≡ text_string element }
 {
-    11 + 2 * label
+    12 + 2 * element
 }
 
-// The number of the name of a Label's id.
-fn id_name(label: u32) -> u32
-    requires { label < 100 }
-    ensures { result ≡ id_name label }
+// The number of the name of an element's id.
+fn id_name(element: u32) -> u32
+    requires { element < 100 }
+    ensures { result ≡ id_name element }
 {
-    7 + label
+    8 + element
 }
 
-// The number of the int that is a Label's number.
-fn rank_int(label: u32) -> u32
-    requires { label < 100 }
-    ensures { result ≡ rank_int label }
+// The number of the int that is an element's number.
+fn rank_int(element: u32) -> u32
+    requires { element < 100 }
+    ensures { result ≡ rank_int element }
 {
-    1 + label
+    1 + element
+}
+
+// The number of the name of an element's class.
+fn class_number(element: &Element) -> u32
+    ensures { result ≡ class_number element.now }
+{
+    match element {
+        Element::Label { .. } => LABEL_NAME,
+        Element::Button { .. } => BUTTON_NAME,
+    }
 }
 
 /// The ABC of a document.
 pub fn emit(alloc: Global, document: &Document) -> Result<Abc, NoMemory>
-    requires { length document.now.labels ≤ 100 }
-    ensures { IfOk result (λ abc. abc ≡ abc_of document.now.labels) }
+    requires { length document.now.elements ≤ 100 }
+    ensures { IfOk result (λ abc. abc ≡ abc_of document.now.elements) }
 {
-    let labels = document.labels.as_slice();
-    let count = labels.len() as u32;
+    let elements = document.elements.as_slice();
     Ok(Abc {
-        constant_pool: constant_pool(alloc, labels)?,
+        constant_pool: constant_pool(alloc, elements)?,
         methods: methods(alloc)?,
         metadata: metadata(alloc)?,
-        instances: instances(alloc, count)?,
+        instances: instances(alloc, elements)?,
         classes: classes(alloc)?,
         scripts: scripts(alloc)?,
-        method_bodies: method_bodies(alloc, count)?,
+        method_bodies: method_bodies(alloc, elements)?,
     })
 }
 
-fn constant_pool(alloc: Global, labels: &[Label]) -> Result<ConstantPool, NoMemory>
-    requires { length labels.now ≤ 100 }
-    ensures { IfOk result (λ pool. pool ≡ pool_of labels.now) }
+fn constant_pool(alloc: Global, elements: &[Element]) -> Result<ConstantPool, NoMemory>
+    requires { length elements.now ≤ 100 }
+    ensures { IfOk result (λ pool. pool ≡ pool_of elements.now) }
 {
     Ok(ConstantPool {
-        integers: ranks(alloc, labels.len() as u32)?,
+        integers: ranks(alloc, elements.len() as u32)?,
         unsigned_integers: Sequence::new(alloc),
         doubles: Sequence::new(alloc),
-        strings: strings(alloc, labels)?,
+        strings: strings(alloc, elements)?,
         namespaces: namespaces(alloc)?,
         namespace_sets: Sequence::new(alloc),
-        multinames: multinames(alloc, labels.len() as u32)?,
+        multinames: multinames(alloc, elements.len() as u32)?,
     })
 }
 
-// The numbers of the Labels, from 0.
+// The numbers of the elements, from 0.
 #[tactic(auto, using(crate::proofs::Each::numbers))]
 fn ranks(alloc: Global, count: u32) -> Result<Sequence<i32>, NoMemory>
     requires { count ≤ 100 }
     ensures { IfOk result (λ integers. integers ≡ each_from (λ k. pos k ∷ []) 0 count) }
 {
     let mut integers = Sequence::new(alloc);
-    for label in 0..count {
-        integers.push(label as i32)?;
+    for element in 0..count {
+        integers.push(element as i32)?;
     }
     Ok(integers)
 }
 
-fn strings(alloc: Global, labels: &[Label]) -> Result<Sequence<Text>, NoMemory>
-    ensures { IfOk result (λ strings. strings ≡ fixed_strings ++ flat_map label_strings labels.now) }
+fn strings(alloc: Global, elements: &[Element]) -> Result<Sequence<Text>, NoMemory>
+    ensures { IfOk result (λ strings. strings ≡ fixed_strings ++ flat_map element_strings elements.now) }
 {
     let mut strings = fixed_strings(alloc)?;
-    for label in labels {
-        put_label_strings(&mut strings, label)?;
+    for element in elements {
+        put_element_strings(alloc, &mut strings, element)?;
     }
     Ok(strings)
 }
@@ -169,14 +183,27 @@ fn fixed_strings(alloc: Global) -> Result<Sequence<Text>, NoMemory>
     strings.push(Text::make(alloc, "place")?)?;
     strings.push(Text::make(alloc, "#building")?)?;
     strings.push(Text::make(alloc, "Bindable")?)?;
+    strings.push(Text::make(alloc, "Button")?)?;
     Ok(strings)
 }
 
-fn put_label_strings(strings: &mut Sequence<Text>, label: &Label) -> Result<(), NoMemory>
-    ensures { OnOk result (strings.new ≡ strings.old ++ label_strings label.now) }
+fn put_element_strings(
+    alloc: Global,
+    strings: &mut Sequence<Text>,
+    element: &Element,
+) -> Result<(), NoMemory>
+    ensures { OnOk result (strings.new ≡ strings.old ++ element_strings element.now) }
 {
-    strings.push(label.id.clone()?)?;
-    strings.push(label.text.clone()?)
+    match element {
+        Element::Label { id, text } => {
+            strings.push(id.clone()?)?;
+            strings.push(text.clone()?)
+        }
+        Element::Button { id, .. } => {
+            strings.push(id.clone()?)?;
+            strings.push(Text::make(alloc, "")?)
+        }
+    }
 }
 
 fn namespaces(alloc: Global) -> Result<Sequence<Namespace>, NoMemory>
@@ -210,8 +237,9 @@ fn multinames(alloc: Global, count: u32) -> Result<Sequence<Multiname>, NoMemory
     multinames.push(qualified(PUBLIC, TEXT_STRING))?;
     multinames.push(qualified(RUNTIME, PLACE_STRING))?;
     multinames.push(qualified(RUNTIME, BUILDING_STRING))?;
-    for label in 0..count {
-        multinames.push(qualified(PUBLIC, id_string(label)))?;
+    multinames.push(qualified(COMPONENTS, BUTTON_STRING))?;
+    for element in 0..count {
+        multinames.push(qualified(PUBLIC, id_string(element)))?;
     }
     Ok(multinames)
 }
@@ -258,11 +286,11 @@ fn metadata(alloc: Global) -> Result<Sequence<MetadataInfo>, NoMemory>
     Ok(metadata)
 }
 
-fn instances(alloc: Global, count: u32) -> Result<Sequence<InstanceInfo>, NoMemory>
-    requires { count ≤ 100 }
-    ensures { IfOk result (λ instances. instances ≡ instance_of count ∷ []) }
+fn instances(alloc: Global, elements: &[Element]) -> Result<Sequence<InstanceInfo>, NoMemory>
+    requires { length elements.now ≤ 100 }
+    ensures { IfOk result (λ instances. instances ≡ instance_of elements.now ∷ []) }
 {
-    let traits = instance_traits(alloc, count)?;
+    let traits = instance_traits(alloc, elements)?;
     let mut instances = Sequence::new(alloc);
     instances.push(InstanceInfo {
         name: MAIN_NAME,
@@ -276,31 +304,30 @@ fn instances(alloc: Global, count: u32) -> Result<Sequence<InstanceInfo>, NoMemo
     Ok(instances)
 }
 
-#[tactic(auto, using(crate::proofs::Each::numbers))]
-fn instance_traits(alloc: Global, count: u32) -> Result<Sequence<Trait>, NoMemory>
-    requires { count ≤ 100 }
-    ensures { IfOk result (λ traits. traits ≡ instance_traits count) }
+fn instance_traits(alloc: Global, elements: &[Element]) -> Result<Sequence<Trait>, NoMemory>
+    requires { length elements.now ≤ 100 }
+    ensures { IfOk result (λ traits. traits ≡ instance_traits elements.now) }
 {
     let mut traits = Sequence::new(alloc);
-    for label in 0..count {
-        traits.push(id_trait(alloc, label)?)?;
+    for number in 0..elements.len() {
+        traits.push(id_trait(alloc, number as u32, &elements[number])?)?;
     }
     traits.push(building_trait(alloc))?;
     Ok(traits)
 }
 
-// The bindable slot of a Label's id.
-fn id_trait(alloc: Global, label: u32) -> Result<Trait, NoMemory>
-    requires { label < 100 }
-    ensures { IfOk result (λ member. member ≡ id_trait label) }
+// The bindable slot of an element's id.
+fn id_trait(alloc: Global, number: u32, element: &Element) -> Result<Trait, NoMemory>
+    requires { number < 100 }
+    ensures { IfOk result (λ member. member ≡ id_trait number element.now) }
 {
     let mut metadata = Sequence::new(alloc);
     metadata.push(0)?;
     Ok(Trait {
-        name: id_name(label),
+        name: id_name(number),
         kind: TraitKind::Slot {
             slot_id: 0,
-            type_name: LABEL_NAME,
+            type_name: class_number(element),
             vindex: 0,
             vkind: 0,
         },
@@ -381,33 +408,52 @@ const CONSTRUCTOR_CODE: [Instruction; 5] = [
     Instruction::ReturnVoid,
 ];
 
-// Makes a Label, writes its id and its text, and adds it to the document.
-fn label_code(label: u32) -> [Instruction; 14]
-    requires { label < 100 }
-    ensures { result ≡ label_code label }
+// Makes an element, and writes its id.
+fn making_code(number: u32, element: &Element) -> [Instruction; 6]
+    requires { number < 100 }
+    ensures { result ≡ making_code number element.now }
 {
+    let class = class_number(element);
     [
-        Instruction::FindPropStrict { name: LABEL_NAME },
+        Instruction::FindPropStrict { name: class },
         Instruction::ConstructProp {
-            name: LABEL_NAME,
+            name: class,
             count: 0,
         },
         Instruction::SetLocal1,
         Instruction::GetLocal0,
         Instruction::GetLocal1,
         Instruction::SetProperty {
-            name: id_name(label),
+            name: id_name(number),
         },
+    ]
+}
+
+// Writes the text of a Label.
+fn text_code(number: u32) -> [Instruction; 3]
+    requires { number < 100 }
+    ensures { result ≡ GetLocal1 ∷ PushString (text_string number) ∷ SetProperty 4 ∷ [] }
+{
+    [
         Instruction::GetLocal1,
         Instruction::PushString {
-            string: text_string(label),
+            string: text_string(number),
         },
         Instruction::SetProperty { name: TEXT_NAME },
+    ]
+}
+
+// Adds the element to the document.
+fn place_code(number: u32) -> [Instruction; 5]
+    requires { number < 100 }
+    ensures { result ≡ place_code number }
+{
+    [
         Instruction::GetLocal0,
         Instruction::GetLocal0,
         Instruction::GetLocal1,
         Instruction::PushInt {
-            int: rank_int(label),
+            int: rank_int(number),
         },
         Instruction::CallPropVoid {
             name: PLACE_NAME,
@@ -416,15 +462,31 @@ fn label_code(label: u32) -> [Instruction; 14]
     ]
 }
 
-// Builds the Labels one after another.
-#[tactic(auto, using(crate::proofs::Each::numbers))]
-fn building_code(alloc: Global, count: u32) -> Result<Sequence<Instruction>, NoMemory>
-    requires { count ≤ 100 }
-    ensures { IfOk result (λ code. code ≡ building_code count) }
+// Makes an element, writes its id, applies its attributes, and adds it to the document.
+fn put_element(
+    code: &mut Sequence<Instruction>,
+    number: u32,
+    element: &Element,
+) -> Result<(), NoMemory>
+    requires { number < 100 }
+    ensures { OnOk result (code.new ≡ code.old ++ element_code number element.now) }
+{
+    put_all(code, &making_code(number, element))?;
+    match element {
+        Element::Label { .. } => put_all(code, &text_code(number))?,
+        Element::Button { .. } => {}
+    }
+    put_all(code, &place_code(number))
+}
+
+// Builds the elements one after another.
+fn building_code(alloc: Global, elements: &[Element]) -> Result<Sequence<Instruction>, NoMemory>
+    requires { length elements.now ≤ 100 }
+    ensures { IfOk result (λ code. code ≡ building_code elements.now) }
 {
     let mut code = Sequence::new(alloc);
-    for label in 0..count {
-        put_all(&mut code, &label_code(label))?;
+    for number in 0..elements.len() {
+        put_element(&mut code, number as u32, &elements[number])?;
     }
     code.push(Instruction::ReturnVoid)?;
     Ok(code)
@@ -460,9 +522,9 @@ fn plain_parts(alloc: Global, instructions: &[Instruction]) -> Result<Sequence<P
     Ok(parts)
 }
 
-fn method_bodies(alloc: Global, count: u32) -> Result<Sequence<MethodBody>, NoMemory>
-    requires { count ≤ 100 }
-    ensures { IfOk result (λ bodies. bodies ≡ bodies_of count) }
+fn method_bodies(alloc: Global, elements: &[Element]) -> Result<Sequence<MethodBody>, NoMemory>
+    requires { length elements.now ≤ 100 }
+    ensures { IfOk result (λ bodies. bodies ≡ bodies_of elements.now) }
 {
     let mut bodies = Sequence::new(alloc);
     let script_initialiser = assembled(alloc, &SCRIPT_INITIALISER_CODE)?;
@@ -471,7 +533,7 @@ fn method_bodies(alloc: Global, count: u32) -> Result<Sequence<MethodBody>, NoMe
     bodies.push(body(alloc, CLASS_INITIALISER, 0, 1, class_initialiser))?;
     let constructor = assembled(alloc, &CONSTRUCTOR_CODE)?;
     bodies.push(body(alloc, CONSTRUCTOR, 1, 1, constructor))?;
-    let building = building_code(alloc, count)?;
+    let building = building_code(alloc, elements)?;
     let building = assembled(alloc, building.as_slice())?;
     bodies.push(body(alloc, BUILDING, 4, 2, building))?;
     Ok(bodies)

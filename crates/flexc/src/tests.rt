@@ -193,12 +193,12 @@ fn an_empty_text_is_not_written(rt: HostRuntime) -> Result<(), Fail> {
 }
 
 #[test]
-fn labels_are_made_in_order(rt: HostRuntime) -> Result<(), Fail> {
-    let labels = "<s:Label id=\"a\" text=\"1\"/><s:Label id=\"b\" text=\"\"/>";
-    let left = perform(rt.alloc(), WORDS, "Main.mxml", labels, "")?;
+fn elements_are_made_in_order(rt: HostRuntime) -> Result<(), Fail> {
+    let elements = "<s:Button id=\"go\"/><s:Label id=\"a\" text=\"1\"/>";
+    let left = perform(rt.alloc(), WORDS, "Main.mxml", elements, "")?;
     left.shows(
         0,
-        "new 1 Main\nnew 2 Label\nset 1.a #2\nset 2.text \"1\"\nadd 1 2 0\nnew 3 Label\nset 1.b #3\nadd 1 3 1\nend\n",
+        "new 1 Main\nnew 2 Button\nset 1.go #2\nadd 1 2 0\nnew 3 Label\nset 1.a #3\nset 3.text \"1\"\nadd 1 3 1\nend\n",
     )?;
     let left = perform(rt.alloc(), WORDS, "Main.mxml", "", "")?;
     left.shows(0, "new 1 Main\nend\n")?;
@@ -238,7 +238,7 @@ fn turns_are_spent(rt: HostRuntime) -> Result<(), Fail> {
 fn other_sources_are_not_yet_built(rt: HostRuntime) -> Result<(), Fail> {
     let cases = [
         "<s:Label id=\"greeting\" text=\"Hi\" />",
-        "<s:Button id=\"go\"/>",
+        "<s:Button id=\"go\" click=\"trace('on')\"/>",
     ];
     for elements in cases {
         let left = perform(rt.alloc(), WORDS, "Main.mxml", elements, "#")?;

@@ -1,6 +1,6 @@
-use Rattle.std.proofs.Common.{◌≡◌, ◌++◌}
-use Rattle.flexc.specs.Emitted.{each_from, label_code}
+use Rattle.std.proofs.Common.{◌≡◌, ◌++◌, take}
+use Rattle.flexc.specs.Emitted.{each_element, element_code}
 use Rattle.flexc.proofs.emit.building_code.Given as goal
 
-abbrev pub invariant-loop-label : goal.invariant-loop-label
-invariant-loop-label l = l.code ≡ l.initial.code ++ each_from label_code 0 l.label
+abbrev pub invariant-loop-number : goal.invariant-loop-number
+invariant-loop-number l = l.code ≡ l.initial.code ++ each_element element_code 0 (take l.number l.elements)

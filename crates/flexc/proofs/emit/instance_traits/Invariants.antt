@@ -1,6 +1,6 @@
-use Rattle.std.proofs.Common.{◌≡◌, [], ◌∷◌, ◌++◌}
-use Rattle.flexc.specs.Emitted.{each_from, id_trait}
+use Rattle.std.proofs.Common.{◌≡◌, [], ◌∷◌, ◌++◌, take}
+use Rattle.flexc.specs.Emitted.{each_element, id_trait}
 use Rattle.flexc.proofs.emit.instance_traits.Given as goal
 
-abbrev pub invariant-loop-label : goal.invariant-loop-label
-invariant-loop-label l = l.traits ≡ l.initial.traits ++ each_from (λ k. id_trait k ∷ []) 0 l.label
+abbrev pub invariant-loop-number : goal.invariant-loop-number
+invariant-loop-number l = l.traits ≡ l.initial.traits ++ each_element (λ k e. id_trait k e ∷ []) 0 (take l.number l.elements)

@@ -1,7 +1,6 @@
 use Rattle.std.proofs.Common.{rules, ◌≡◌}
 use Rattle.std.specs.Prelude.{codes}
 use Rattle.std.specs.String.{string_bytes}
-use Rattle.flexc.specs.Words.{IsNumber, number_behind}
 use Rattle.flexc.proofs.CommandWords.{are_eight, with_turns}
 use Rattle.flexc.proofs.words.read_with_turns.Goals as goal
 
