@@ -11,6 +11,7 @@ use Rattle.flexc.specs.Command.{status, status_after, outcome_status, IsEnd, Has
 use Rattle.flexc.specs.Meaning.{source_trace}
 use Rattle.script_player.specs.Playing.{HasTrace}
 use Rattle.flexc.specs.PlaysAs.{PlaysAs}
+use Rattle.flexc.specs.Lines.{other_line, script_line}
 use Rattle.flexc.specs.Words.{AreWords, Plain, With_turns, turns}
 use Rattle.script_player.specs.Printed.{HasPlayed, Plays}
 use Rattle.flexc.specs.Source.{HasDocument, IsNotBuilt}
@@ -42,10 +43,10 @@ failed_course words (failure.NotYetBuilt name) old new before mid after answer h
     let q = n.none.1 in
     Not_built n.script n.out n.main q.source q.commands n.are q.has_read q.refused
     (subst (λ m. Says 3 (m ++ codes ":1:1: NotYetBuilt") before after answer) n.none.0 (subst (λ s. Says 3 (name.now ++ codes ":1:1: NotYetBuilt") s after answer) h.1 r))
-failed_course words failure.ScriptNotYetBuilt old new before mid after answer h r =
+failed_course words (failure.ScriptNotYetBuilt line) old new before mid after answer h r =
     let n = h.0 in
     let q = n.none in
-    Bad_script n.script n.out n.main q.source q.commands q.document n.are q.has_read q.has q.some (subst (λ s. Says 4 (codes "script:1: not yet built") s after answer) h.1 r)
+    Bad_script n.script n.out n.main q.source q.commands q.document line n.are q.has_read q.has q.other (subst (λ s. Says 4 (script_line line) s after answer) h.1 r)
 failed_course words (failure.CannotWrite name) old new before mid after answer h r =
     let n = h.0 in
     Cannot_write n.script name.now n.main n.document n.are n.written (subst (λ s. Says 8 (codes "cannot write " ++ name.now) s after answer) h.1 r)
@@ -90,7 +91,7 @@ module _ (words : List (List ℕ)) (old new : FilesState) where
       → HasBuilt script main built old mid → built ≡ document
   same_document document r script out main are mid built h =
       let same = same_words words script out main r.script r.out r.main are r.are in
-      let there = source_there script main h.source [] old mid h.read r.tells in
+      let there = source_there script main h.source h.commands old mid h.read r.tells in
       let source : h.source ≡ r.source = some_is h.source r.source (sym there ∙ ap old.bytes_of same.2 ∙ r.source_there) in
       one_document r.main r.source built document (subst (λ m. HasDocument m r.source built) same.2 (subst (λ s. HasDocument main s built) source h.has)) r.has
 
@@ -111,9 +112,10 @@ module _ (words : List (List ℕ)) (old new : FilesState) where
       omega (arith, long, short)
   read_long document r script out main name are (At_script source mid first is fails) =
       let same = same_words words script out main r.script r.out r.main are r.are in
-      let there : mid.bytes_of script ≡ Some [] = (first.1.told r.tells).tried.only.bytes script ∙ ap old.bytes_of same.0 ∙ r.script_there in
-      let long : 1048576 < length {A = ℕ} [] = subst (λ o. IsSomeAnd o (λ bytes. 1048576 < length bytes)) there (fails.told (first.1.tells ∙ r.tells)).long in
-      omega (arith, long)
+      let there : mid.bytes_of script ≡ Some r.commands = (first.1.told r.tells).tried.only.bytes script ∙ ap old.bytes_of same.0 ∙ r.script_there in
+      let long : 1048576 < length r.commands = subst (λ o. IsSomeAnd o (λ bytes. 1048576 < length bytes)) there (fails.told (first.1.tells ∙ r.tells)).long in
+      let fits = r.script_fits in
+      omega (arith, long, fits)
 
   -- the source is built
   not_refused : (document : Document) (r : IsRunnable words old document) (script out main source commands : List ℕ) → AreWords words script out main
@@ -124,17 +126,19 @@ module _ (words : List (List ℕ)) (old new : FilesState) where
       let is : source ≡ r.source = some_is source r.source (sym there ∙ ap old.bytes_of same.2 ∙ r.source_there) in
       refused document (subst (λ m. HasDocument m source document) (sym same.2) (subst (λ s. HasDocument r.main s document) (sym is) r.has))
 
-  -- the script is empty
-  no_commands : (document : Document) (r : IsRunnable words old document) (script out main source commands : List ℕ) → AreWords words script out main
-      → HasRead script main source commands old new → commands ≢ [] → ⊥
-  no_commands document r script out main source commands are h some =
+  -- nothing is to be done of the script
+  no_commands : (document : Document) (r : IsRunnable words old document) (script out main source commands : List ℕ) (line : ℕ) → AreWords words script out main
+      → HasRead script main source commands old new → other_line commands ≡ Some line → ⊥
+  no_commands document r script out main source commands line are h other =
       let same = same_words words script out main r.script r.out r.main are r.are in
-      some (some_is commands [] (sym (script_there script main source commands old new h r.tells) ∙ ap old.bytes_of same.0 ∙ r.script_there))
+      let is : commands ≡ r.commands = some_is commands r.commands (sym (script_there script main source commands old new h r.tells) ∙ ap old.bytes_of same.0 ∙ r.script_there) in
+      let both : Some line ≡ None = sym other ∙ ap other_line is ∙ r.idle in
+      absurd (cc)
 
   -- the file was written
   write_fails : (script out main : List ℕ) (document : Document) → HasWrittenFile script out main document (Err write.Failed) old new → NoFileFault old new → ⊥
   write_fails script out main document h none =
-      none.writes (subst (λ n. Rose n new.write_faults) (counts_read script main h.built.source [] old h.mid h.built.read).writes h.written.counts.writes)
+      none.writes (subst (λ n. Rose n new.write_faults) (counts_read script main h.built.source h.built.commands old h.mid h.built.read).writes h.written.counts.writes)
 
   module _ (before after : SinkState) where
     -- the text of the file's trace, all of which was printed, is that of the source's, and so is its outcome
@@ -152,8 +156,8 @@ module _ (words : List (List ℕ)) (old new : FilesState) where
     runs_whole answer (Too_long script out main name are fails says) document r none quiet = absurd (read_long document r script out main name are fails)
     runs_whole answer (Not_built script out main source commands are has_read refused says) document r none quiet =
         absurd (not_refused document r script out main source commands are has_read refused)
-    runs_whole answer (Bad_script script out main source commands built are has_read has some says) document r none quiet =
-        absurd (no_commands document r script out main source commands are has_read some)
+    runs_whole answer (Bad_script script out main source commands built number are has_read has other says) document r none quiet =
+        absurd (no_commands document r script out main source commands number are has_read other)
     runs_whole answer (Cannot_write script out main built are written says) document r none quiet = absurd (write_fails script out main built written none)
     runs_whole answer (Cannot_print script out main built are written plays is) document r none quiet = absurd (quiet plays.faults)
     runs_whole answer (No_memory without is) document r none quiet = inr is
@@ -191,8 +195,8 @@ module _ (words : List (List ℕ)) (old new : FilesState) where
     runs_in_part answer (Too_long script out main name are fails says) document r none t = absurd (read_long document r script out main name are fails)
     runs_in_part answer (Not_built script out main source commands are has_read refused says) document r none t =
         absurd (not_refused document r script out main source commands are has_read refused)
-    runs_in_part answer (Bad_script script out main source commands built are has_read has some says) document r none t =
-        absurd (no_commands document r script out main source commands are has_read some)
+    runs_in_part answer (Bad_script script out main source commands built number are has_read has other says) document r none t =
+        absurd (no_commands document r script out main source commands number are has_read other)
     runs_in_part answer (Cannot_write script out main built are written says) document r none t = absurd (write_fails script out main built written none)
     runs_in_part answer (Cannot_print script out main built are written plays is) document r none t = part_taken document r script out main built are written (plays.told t)
     runs_in_part answer (No_memory without is) document r none t = memory_part document r without t
@@ -206,14 +210,16 @@ module _ (words : List (List ℕ)) (old new : FilesState) where
         → Changes old new (SameCounts old new) (HoldsFile script out main h.built.source h.bytes old new)
     all_written script out main built h =
         let reading = h.built.read in
-        let counts = counts_read script main h.built.source [] old h.mid reading in
+        let counts = counts_read script main h.built.source h.built.commands old h.mid reading in
         let tells : h.mid.tells ≡ old.tells = reading.second.1.tells ∙ reading.first.1.tells in
         record {
           tells = h.written.tells ∙ tells;
           counts = record { reads = h.written.counts.reads ∙ counts.reads; writes = h.written.counts.writes ∙ counts.writes };
           told = λ t. record {
-            source_there = source_there script main h.built.source [] old h.mid reading t;
-            script_there = script_there script main h.built.source [] old h.mid reading t;
+            source_there = source_there script main h.built.source h.built.commands old h.mid reading t;
+            commands = h.built.commands;
+            script_there = script_there script main h.built.source h.built.commands old h.mid reading t;
+            idle = h.built.idle;
             written = (h.written.told (tells ∙ t)).there;
             others = λ name other.
                 (h.written.told (tells ∙ t)).others name other ∙ (reading.second.1.told (reading.first.1.tells ∙ t)).tried.only.bytes name ∙ (reading.first.1.told t).tried.only.bytes name;
@@ -257,7 +263,7 @@ module _ (words : List (List ℕ)) (old new : FilesState) where
     has_printed k end answer f ends of (Cannot_read script out main name are fails says) e = absurd (said 7 k _ answer f.seven f.eight f.nine says e)
     has_printed k end answer f ends of (Too_long script out main name are fails says) e = absurd (said 10 k _ answer f.ten f.eight f.nine says e)
     has_printed k end answer f ends of (Not_built script out main source commands are has_read refused says) e = absurd (said 3 k _ answer f.three f.eight f.nine says e)
-    has_printed k end answer f ends of (Bad_script script out main source commands built are has_read has some says) e = absurd (said 4 k _ answer f.four f.eight f.nine says e)
+    has_printed k end answer f ends of (Bad_script script out main source commands built number are has_read has other says) e = absurd (said 4 k _ answer f.four f.eight f.nine says e)
     has_printed k end answer f ends of (Cannot_write script out main built are written says) e = absurd (said 8 k _ answer f.eight f.eight f.nine says e)
     has_printed k end answer f ends of (Cannot_print script out main built are written plays is) e = absurd (numbered 8 k answer f.eight is e)
     has_printed k end answer f ends of (No_memory without is) e = absurd (numbered 9 k answer f.nine is e)
@@ -339,7 +345,7 @@ module _ (words : List (List ℕ)) (old new : FilesState) (before after : SinkSt
   refuses_rightly answer (No_command missing files says) meant line (For_long_source script out main source are there long number same) = absurd (missing script out main are)
   refuses_rightly answer (No_command missing files says) meant line (For_long_script script out main source commands are there fits script_there long number same) = absurd (missing script out main are)
   refuses_rightly answer (No_command missing files says) meant line (For_source script out main source commands are both refused number same) = absurd (missing script out main are)
-  refuses_rightly answer (No_command missing files says) meant line (For_script script out main source commands document are both has some number same) = absurd (missing script out main are)
+  refuses_rightly answer (No_command missing files says) meant line (For_script script out main source commands document which are both has other2 number same) = absurd (missing script out main are)
   refuses_rightly answer (Cannot_read script out main name are fails says) meant line why = absurd (read_fails words old new script out main name are fails none)
   refuses_rightly answer (Cannot_write script out main built are written says) meant line why = absurd (write_fails words old new script out main built written none)
   refuses_rightly answer (Cannot_print script out main built are written plays is) meant line why = absurd (quiet plays.faults)
@@ -357,7 +363,7 @@ module _ (words : List (List ℕ)) (old new : FilesState) (before after : SinkSt
       by (Source s is there large) (For_source t p m source commands are2 both refused number same) =
           let names = same_words words script out main t p m are are2 in
           let e = ap length (same_bytes main m s source names.2 there both.source_there) in let f = both.source_fits in absurd (omega (arith, e, f))
-      by (Source s is there large) (For_script t p m source commands document are2 both has some number same) =
+      by (Source s is there large) (For_script t p m source commands document which are2 both has other2 number same) =
           let names = same_words words script out main t p m are are2 in
           let e = ap length (same_bytes main m s source names.2 there both.source_there) in let f = both.source_fits in absurd (omega (arith, e, f))
       by (Script s c is there fits script_there large) (For_long_source t p m source are2 there2 long2 number same) =
@@ -369,7 +375,7 @@ module _ (words : List (List ℕ)) (old new : FilesState) (before after : SinkSt
       by (Script s c is there fits script_there large) (For_source t p m source commands are2 both refused number same) =
           let names = same_words words script out main t p m are are2 in
           let e = ap length (same_bytes script t c commands names.0 script_there both.script_there) in let f = both.script_fits in absurd (omega (arith, e, f))
-      by (Script s c is there fits script_there large) (For_script t p m source commands document are2 both has some number same) =
+      by (Script s c is there fits script_there large) (For_script t p m source commands document which are2 both has other2 number same) =
           let names = same_words words script out main t p m are are2 in
           let e = ap length (same_bytes script t c commands names.0 script_there both.script_there) in let f = both.script_fits in absurd (omega (arith, e, f))
   refuses_rightly answer (Not_built script out main source commands are has_read refused says) meant line why = by why
@@ -388,11 +394,11 @@ module _ (words : List (List ℕ)) (old new : FilesState) (before after : SinkSt
       by (For_source t p m s c are2 both refused2 number same) =
           let names = same_words words script out main t p m are are2 in
           has_said meant 3 line (main ++ codes ":1:1: NotYetBuilt") answer says number (same ∙ ap (λ l. l ++ codes ":1:1: NotYetBuilt") (sym names.2))
-      by (For_script t p m s c document are2 both has some number same) =
+      by (For_script t p m s c document which are2 both has other2 number same) =
           let names = same_words words script out main t p m are are2 in
           let e = same_bytes main m source s names.2 here.source_there both.source_there in
           absurd (refused document (subst (λ n. HasDocument n source document) (sym names.2) (subst (λ b. HasDocument m b document) (sym e) has)))
-  refuses_rightly answer (Bad_script script out main source commands built are has_read has some says) meant line why = by why
+  refuses_rightly answer (Bad_script script out main source commands built first are has_read has other says) meant line why = by why
     where
       here : HoldsBoth script main source commands old
       here = reading script main source commands new has_read
@@ -409,11 +415,16 @@ module _ (words : List (List ℕ)) (old new : FilesState) (before after : SinkSt
           let names = same_words words script out main t p m are are2 in
           let e = same_bytes main m source s names.2 here.source_there both.source_there in
           absurd (refused built (subst (λ n. HasDocument n s built) names.2 (subst (λ b. HasDocument main b built) e has)))
-      by (For_script t p m s c document are2 both has2 some2 number same) = has_said meant 4 line (codes "script:1: not yet built") answer says number same
+      by (For_script t p m s c document which are2 both has2 other2 number same) =
+          let names = same_words words script out main t p m are are2 in
+          let e = same_bytes script t commands c names.0 here.script_there both.script_there in
+          let firsts : Some first ≡ Some which = sym other ∙ ap other_line e ∙ other2 in
+          let lines : line ≡ script_line first = cc in
+          has_said meant 4 line (script_line first) answer says number lines
   refuses_rightly answer (Has_played script out main built outcome are written plays is comes) meant line why = by why
     where
-      here : HoldsBoth script main written.built.source [] old
-      here = reading script main written.built.source [] written.mid written.built.read
+      here : HoldsBoth script main written.built.source written.built.commands old
+      here = reading script main written.built.source written.built.commands written.mid written.built.read
 
       by : Refuses words old meant line → HasSaid meant line before after answer ⊎ (answer ≡ status 9)
       by (For_words missing number same) = absurd (missing script out main are)
@@ -422,14 +433,18 @@ module _ (words : List (List ℕ)) (old new : FilesState) (before after : SinkSt
           let e = ap length (same_bytes main m written.built.source s names.2 here.source_there there2) in let f = here.source_fits in absurd (omega (arith, e, f))
       by (For_long_script t p m s c are2 there2 fits2 script_there2 long2 number same) =
           let names = same_words words script out main t p m are are2 in
-          let e = ap length (same_bytes script t [] c names.0 here.script_there script_there2) in absurd (omega (arith, e))
+          let e = ap length (same_bytes script t written.built.commands c names.0 here.script_there script_there2) in
+          let f = here.script_fits in
+          absurd (omega (arith, e, f))
       by (For_source t p m s c are2 both refused number same) =
           let names = same_words words script out main t p m are are2 in
           let e = same_bytes main m written.built.source s names.2 here.source_there both.source_there in
           absurd (refused built (subst (λ n. HasDocument n s built) names.2 (subst (λ b. HasDocument main b built) e written.built.has)))
-      by (For_script t p m s c document are2 both has some number same) =
+      by (For_script t p m s c document which are2 both has other2 number same) =
           let names = same_words words script out main t p m are are2 in
-          absurd (some (sym (same_bytes script t [] c names.0 here.script_there both.script_there)))
+          let e = same_bytes script t written.built.commands c names.0 here.script_there both.script_there in
+          let both_lines : None ≡ Some which = sym written.built.idle ∙ ap other_line e ∙ other2 in
+          absurd (cc)
 
 -- the play of a document that was built comes to its end, or its turns are spent
 pub run_ends : (words : List (List ℕ)) (outcome : Outcome) (old new : FilesState) (before after : SinkState) → HasRun words outcome old new before after → IsEnd outcome

@@ -19,6 +19,7 @@ pub mod Says
 pub mod Courses
 pub mod EndsWell
 pub mod Works
+pub mod Lines
 pub mod Numbers
 pub mod CommandWords
 pub mod Examples

@@ -1,5 +1,5 @@
 -- The parts of the work of a command, put together.
-use Rattle.std.proofs.Common.{ℕ, List, [], Ok, Err, Result, refl, ◌∙◌}
+use Rattle.std.proofs.Common.{ℕ, List, Ok, Err, Result, refl, ◌∙◌}
 use Rattle.std.specs.Borrow.{Bor}
 use Rattle.flex_edge.specs.Outside.{FilesState, SinkState}
 use Rattle.flex_edge.specs.Calls.{SameCounts, Changes}
@@ -54,7 +54,7 @@ nothing_to_play words script out main failure.BadUsage old new before are h = ab
 nothing_to_play words script out main (failure.CannotRead name) old new before are h = (record { script = script; out = out; main = main; are = are; none = h }, refl)
 nothing_to_play words script out main (failure.TooLong name) old new before are h = (record { script = script; out = out; main = main; are = are; none = h }, refl)
 nothing_to_play words script out main (failure.NotYetBuilt name) old new before are h = (record { script = script; out = out; main = main; are = are; none = h }, refl)
-nothing_to_play words script out main failure.ScriptNotYetBuilt old new before are h = (record { script = script; out = out; main = main; are = are; none = h }, refl)
+nothing_to_play words script out main (failure.ScriptNotYetBuilt line) old new before are h = (record { script = script; out = out; main = main; are = are; none = h }, refl)
 nothing_to_play words script out main (failure.CannotWrite name) old new before are h = absurd h
 nothing_to_play words script out main failure.CannotPrint old new before are h = absurd h
 nothing_to_play words script out main failure.NoMemory old new before are h = Early script out main are h refl
@@ -63,7 +63,7 @@ nothing_to_play words script out main failure.NoMemory old new before are h = Ea
 pub built_early : (words : List (List ℕ)) (script out main : List ℕ) (document : Document) (old new : FilesState) (before : SinkState) → AreWords words script out main
     → HasBuilt script main document old new → HasNoMemory words old new before before
 built_early words script out main document old new before are h =
-    Early script out main are (only_read script main h.source [] old h.read.mid new h.read.first h.read.second) refl
+    Early script out main are (only_read script main h.source h.commands old h.read.mid new h.read.first h.read.second) refl
 
 -- the file that was to be written plays as the document
 abbrev pub written_file : (script out main bytes : List ℕ) (document : Document) (result : Result (Unit {0}) WriteRefusal) (old mid new : FilesState) → HasBuilt script main document old mid

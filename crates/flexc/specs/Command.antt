@@ -1,5 +1,5 @@
 -- What `command` does and answers.
-use Rattle.std.specs.Prelude.{◌≡◌, ◌≢◌, ℕ, ◌<◌, ◌≤◌, List, [], ◌++◌, length, IsTrue, Some, Result, Ok, Err, codes, ◌⊎◌}
+use Rattle.std.specs.Prelude.{◌≡◌, ℕ, ◌<◌, ◌≤◌, List, [], ◌++◌, length, IsTrue, Some, None, Result, Ok, Err, codes, ◌⊎◌}
 use Rattle.flex_base.specs.declared.outcome.Outcome.{Outcome}
 use Rattle.flex_base.specs.declared.outcome.Outcome.TheVariants.{Ended, Stopped, TurnsSpent, Fault}
 use Rattle.flex_edge.specs.Outside.{Rose, FilesState, SinkState}
@@ -12,6 +12,7 @@ use Rattle.flex_edge.specs.declared.output.WriteRefusal.TheVariants as write
 use Rattle.flex_front.specs.declared.document.Document.{Document}
 use Rattle.flexc.specs.Meaning.{source_trace}
 use Rattle.flexc.specs.PlaysAs.{PlaysAs}
+use Rattle.flexc.specs.Lines.{other_line, script_line}
 use Rattle.flexc.specs.Words.{AreWords, IsNoCommand, turns}
 use Rattle.script_player.specs.Printed.{HasPlayed, Plays}
 use Rattle.flexc.specs.Source.{HasDocument, IsNotBuilt}
@@ -45,10 +46,12 @@ pub data FailsToRead (script main name : List ℕ) (refusal : ReadRefusal) (old 
       (source : List ℕ) (mid : FilesState) (first : ReadsFile old main (Ok source) mid) (is : name ≡ script) (fails : ReadsFile mid script (Err refusal) new)
       → FailsToRead script main name refusal old new
 
--- the source was read, and so was an empty script; the source has this document
+-- the source was read, and so was a script of which nothing is to be done; the source has this document
 pub record HasBuilt (script main : List ℕ) (document : Document) (old new : FilesState) : Type 0 where
   pub source : List ℕ
-  pub read : HasRead script main source [] old new
+  pub commands : List ℕ
+  pub read : HasRead script main source commands old new
+  pub idle : other_line commands ≡ None
   pub has : HasDocument main source document
 
 -- a file that plays as the document was to be written, and this came of it
@@ -93,9 +96,9 @@ pub data Course (words : List (List ℕ)) (old new : FilesState) (before after :
       (says : Says 10 (name ++ codes ": too long") before after answer) → Course words old new before after answer
   Not_built : (script out main source commands : List ℕ) (are : AreWords words script out main) (has_read : HasRead script main source commands old new)
       (refused : IsNotBuilt main source) (says : Says 3 (main ++ codes ":1:1: NotYetBuilt") before after answer) → Course words old new before after answer
-  Bad_script : (script out main source commands : List ℕ) (document : Document) (are : AreWords words script out main)
-      (has_read : HasRead script main source commands old new) (has : HasDocument main source document) (some : commands ≢ [])
-      (says : Says 4 (codes "script:1: not yet built") before after answer) → Course words old new before after answer
+  Bad_script : (script out main source commands : List ℕ) (document : Document) (line : ℕ) (are : AreWords words script out main)
+      (has_read : HasRead script main source commands old new) (has : HasDocument main source document) (other : other_line commands ≡ Some line)
+      (says : Says 4 (script_line line) before after answer) → Course words old new before after answer
   Cannot_write : (script out main : List ℕ) (document : Document) (are : AreWords words script out main)
       (written : HasWrittenFile script out main document (Err write.Failed) old new) (says : Says 8 (codes "cannot write " ++ out) before after answer)
       → Course words old new before after answer
@@ -110,7 +113,9 @@ pub data Course (words : List (List ℕ)) (old new : FilesState) (before after :
 -- both files of the command have these bytes, and the other one has the written bytes now
 pub record HoldsFile (script out main source bytes : List ℕ) (old new : FilesState) : Type 0 where
   pub source_there : old.bytes_of main ≡ Some source
-  pub script_there : old.bytes_of script ≡ Some []
+  pub commands : List ℕ
+  pub script_there : old.bytes_of script ≡ Some commands
+  pub idle : other_line commands ≡ None
   pub written : new.bytes_of out ≡ Some bytes
   pub others : SameOthers out old new
 
@@ -129,7 +134,7 @@ pub record HasPrintedTrace (words : List (List ℕ)) (outcome : Outcome) (old ne
   pub printed : SinkChanges before after (after.write_faults ≡ before.write_faults) (after.taken ≡ before.taken ++ text (source_trace document [] (turns words)))
   pub comes_to : (source_trace document [] (turns words)).outcome ≡ outcome
 
--- the words name a main source with this document and an empty script
+-- the words name a main source with this document, and a script of which nothing is to be done
 pub record IsRunnable (words : List (List ℕ)) (files : FilesState) (document : Document) : Type 0 where
   pub script : List ℕ
   pub out : List ℕ
@@ -138,7 +143,10 @@ pub record IsRunnable (words : List (List ℕ)) (files : FilesState) (document :
   pub are : AreWords words script out main
   pub tells : IsTrue files.tells
   pub source_there : files.bytes_of main ≡ Some source
-  pub script_there : files.bytes_of script ≡ Some []
+  pub commands : List ℕ
+  pub script_there : files.bytes_of script ≡ Some commands
+  pub script_fits : length commands ≤ 1048576
+  pub idle : other_line commands ≡ None
   pub has : HasDocument main source document
 
 -- no count of the files' faults rose
@@ -166,9 +174,9 @@ pub data Refuses (words : List (List ℕ)) (files : FilesState) (meant : ℕ) (l
       (line_is : line ≡ script ++ codes ": too long") → Refuses words files meant line
   For_source : (script out main source commands : List ℕ) (are : AreWords words script out main) (both : HoldsBoth script main source commands files)
       (refused : IsNotBuilt main source) (status_is : meant ≡ 3) (line_is : line ≡ main ++ codes ":1:1: NotYetBuilt") → Refuses words files meant line
-  For_script : (script out main source commands : List ℕ) (document : Document) (are : AreWords words script out main)
-      (both : HoldsBoth script main source commands files) (has : HasDocument main source document) (some : commands ≢ []) (status_is : meant ≡ 4)
-      (line_is : line ≡ codes "script:1: not yet built") → Refuses words files meant line
+  For_script : (script out main source commands : List ℕ) (document : Document) (number : ℕ) (are : AreWords words script out main)
+      (both : HoldsBoth script main source commands files) (has : HasDocument main source document) (other : other_line commands ≡ Some number)
+      (status_is : meant ≡ 4) (line_is : line ≡ script_line number) → Refuses words files meant line
 
 -- the line was printed, all of it and nothing else, and gave this status
 pub record HasSaid (meant : ℕ) (line : List ℕ) (before after : SinkState) (answer : Status) : Type 0 where

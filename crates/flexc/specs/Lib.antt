@@ -4,6 +4,7 @@ pub mod World
 pub mod Meaning
 pub mod Examples
 pub mod PlaysAs
+pub mod Lines
 pub mod Words
 pub mod Command
 pub mod Work

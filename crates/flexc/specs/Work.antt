@@ -1,5 +1,5 @@
 -- What the parts of `command` do, before a line is printed that says why nothing was played.
-use Rattle.std.specs.Prelude.{◌≡◌, ◌≢◌, ℕ, List, [], ◌++◌, Result, Ok, Err, codes}
+use Rattle.std.specs.Prelude.{◌≡◌, ℕ, List, ◌++◌, Some, Result, Ok, Err, codes}
 use Rattle.std.specs.Borrow.{Bor}
 use Rattle.flex_base.specs.declared.outcome.Outcome.{Outcome}
 use Rattle.flex_edge.specs.Outside.{FilesState, SinkState}
@@ -12,6 +12,7 @@ use Rattle.flex_edge.specs.declared.input.ReadRefusal.TheVariants as read
 use Rattle.flex_edge.specs.declared.output.WriteRefusal.TheVariants as write
 use Rattle.flex_front.specs.declared.document.Document.{Document}
 use Rattle.flexc.specs.Command.{status, HasRead, FailsToRead, HasBuilt, HasWrittenFile, Says, HasNoMemory}
+use Rattle.flexc.specs.Lines.{other_line, script_line}
 use Rattle.flexc.specs.Words.{AreWords, IsNoCommand, turns}
 use Rattle.script_player.specs.Printed.{HasPlayed, Plays}
 use Rattle.flexc.specs.Source.{HasDocument, IsNotBuilt}
@@ -30,21 +31,21 @@ pub record IsRefused (script main : List ℕ) (old new : FilesState) : Type 0 wh
   pub has_read : HasRead script main source commands old new
   pub refused : IsNotBuilt main source
 
--- both files were read, and the script has a line
-pub record HasCommands (script main : List ℕ) (old new : FilesState) : Type 0 where
+-- both files were read, and this is the first line of the script of which something is to be done
+pub record HasCommands (script main : List ℕ) (line : ℕ) (old new : FilesState) : Type 0 where
   pub source : List ℕ
   pub commands : List ℕ
   pub document : Document
   pub has_read : HasRead script main source commands old new
   pub has : HasDocument main source document
-  pub some : commands ≢ []
+  pub other : other_line commands ≡ Some line
 
 -- why there is no document to be played
 abbrev pub HasNoDocument : List ℕ → List ℕ → Failure → FilesState → FilesState → Type 0
 HasNoDocument script main (failure.CannotRead name) old new = FailsToRead script main name.now read.Failed old new
 HasNoDocument script main (failure.TooLong name) old new = FailsToRead script main name.now read.TooLong old new
 HasNoDocument script main (failure.NotYetBuilt name) old new = (name.now ≡ main) × IsRefused script main old new
-HasNoDocument script main failure.ScriptNotYetBuilt old new = HasCommands script main old new
+HasNoDocument script main (failure.ScriptNotYetBuilt line) old new = HasCommands script main line old new
 HasNoDocument script main failure.NoMemory old new = Changes old new (SameCounts old new) (MakesNone old new)
 HasNoDocument script main _ old new = ⊥
 
@@ -105,7 +106,7 @@ Reports failure.BadUsage before answer after = Says 2 (codes "flexc: bad usage")
 Reports (failure.CannotRead name) before answer after = Says 7 (codes "cannot read " ++ name.now) before after answer
 Reports (failure.TooLong name) before answer after = Says 10 (name.now ++ codes ": too long") before after answer
 Reports (failure.NotYetBuilt name) before answer after = Says 3 (name.now ++ codes ":1:1: NotYetBuilt") before after answer
-Reports failure.ScriptNotYetBuilt before answer after = Says 4 (codes "script:1: not yet built") before after answer
+Reports (failure.ScriptNotYetBuilt line) before answer after = Says 4 (script_line line) before after answer
 Reports (failure.CannotWrite name) before answer after = Says 8 (codes "cannot write " ++ name.now) before after answer
 Reports failure.CannotPrint before answer after = (after ≡ before) × (answer ≡ status 8)
 Reports failure.NoMemory before answer after = (after ≡ before) × (answer ≡ status 9)

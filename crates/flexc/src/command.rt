@@ -13,12 +13,14 @@ ghost use Rattle.flex_edge.specs.Whole.{Prints};
 ghost use Rattle.flexc.specs.Work.{ReadsDocument, Reports, Works, read_failure};
 
 use crate::emit::{MAIN, emit};
+use crate::script::first_other_line;
 use crate::source::document_of;
 use crate::words::{Run, read_words};
 use abc_format::write_abc;
 use flex_base::{Bytes, NoMemory, Outcome, Text};
 use flex_edge::{Files, Observer, ReadRefusal, Sink, WriteRefusal, print, read_file, write_file};
 use flex_front::{Document, SourceRefusal};
+use itoa::Buffer;
 use script_player::play;
 use std::alloc::Global;
 use swf_tags::write_swf;
@@ -59,7 +61,7 @@ enum Failure<'a> {
     CannotRead(&'a str),
     TooLong(&'a str),
     NotYetBuilt(&'a str),
-    ScriptNotYetBuilt,
+    ScriptNotYetBuilt(u32),
     CannotWrite(&'a str),
     CannotPrint,
     NoMemory,
@@ -155,10 +157,9 @@ fn read_document<'a, F: Files>(
         Err(SourceRefusal::NotYetBuilt) => return Err(Failure::NotYetBuilt(run.main)),
         Err(SourceRefusal::NoMemory) => return Err(Failure::NoMemory),
     };
-    if script.is_empty() {
-        Ok(document)
-    } else {
-        Err(Failure::ScriptNotYetBuilt)
+    match first_other_line(script.as_slice()) {
+        None => Ok(document),
+        Some(line) => Err(Failure::ScriptNotYetBuilt(line)),
     }
 }
 
@@ -210,13 +211,17 @@ fn report<O: Sink>(out: &mut O, failure: Failure<'_>) -> Status
         Failure::NotYetBuilt(name) => {
             print_line(out, Status::SOURCE_FAULT, "", name, ":1:1: NotYetBuilt")
         }
-        Failure::ScriptNotYetBuilt => print_line(
-            out,
-            Status::SCRIPT_FAULT,
-            "script:1: not yet built",
-            "",
-            "",
-        ),
+        Failure::ScriptNotYetBuilt(line) => {
+            let mut digits = Buffer::new();
+            let number = digits.format(line);
+            print_line(
+                out,
+                Status::SCRIPT_FAULT,
+                "script:",
+                number,
+                ": not yet built",
+            )
+        }
         Failure::CannotWrite(name) => {
             print_line(out, Status::WRITE_FAULT, "cannot write ", name, "")
         }

@@ -3,6 +3,7 @@
 
 mod command;
 mod emit;
+mod script;
 mod source;
 #[cfg(test)]
 mod tests;

@@ -99,10 +99,10 @@ fn perform(
     words: &[&str],
     name: &str,
     elements: &str,
-    script: &str,
+    script: &[u8],
 ) -> Result<Left, NoMemory> {
     let source = source(alloc, elements)?;
-    let script = Bytes::from_vec(Vec::from_slice(alloc, script.as_bytes())?);
+    let script = Bytes::from_vec(Vec::from_slice(alloc, script)?);
     let files = files(alloc, name, source, script)?;
     perform_on(alloc, words, files, FAIR)
 }
@@ -179,7 +179,7 @@ const BAD_USAGE: &str = "flexc: bad usage\n";
 
 #[test]
 fn a_label_is_made(rt: HostRuntime) -> Result<(), Fail> {
-    let left = perform(rt.alloc(), WORDS, "Main.mxml", LABEL, "")?;
+    let left = perform(rt.alloc(), WORDS, "Main.mxml", LABEL, b"")?;
     left.shows(0, TRACE)?;
     Ok(())
 }
@@ -187,7 +187,7 @@ fn a_label_is_made(rt: HostRuntime) -> Result<(), Fail> {
 #[test]
 fn an_empty_text_is_not_written(rt: HostRuntime) -> Result<(), Fail> {
     let label = "<s:Label id=\"a\" text=\"\"/>";
-    let left = perform(rt.alloc(), WORDS, "Main.mxml", label, "")?;
+    let left = perform(rt.alloc(), WORDS, "Main.mxml", label, b"")?;
     left.shows(0, "new 1 Main\nnew 2 Label\nset 1.a #2\nadd 1 2 0\nend\n")?;
     Ok(())
 }
@@ -195,12 +195,12 @@ fn an_empty_text_is_not_written(rt: HostRuntime) -> Result<(), Fail> {
 #[test]
 fn elements_are_made_in_order(rt: HostRuntime) -> Result<(), Fail> {
     let elements = "<s:Button id=\"go\"/><s:Label id=\"a\" text=\"1\"/>";
-    let left = perform(rt.alloc(), WORDS, "Main.mxml", elements, "")?;
+    let left = perform(rt.alloc(), WORDS, "Main.mxml", elements, b"")?;
     left.shows(
         0,
         "new 1 Main\nnew 2 Button\nset 1.go #2\nadd 1 2 0\nnew 3 Label\nset 1.a #3\nset 3.text \"1\"\nadd 1 3 1\nend\n",
     )?;
-    let left = perform(rt.alloc(), WORDS, "Main.mxml", "", "")?;
+    let left = perform(rt.alloc(), WORDS, "Main.mxml", "", b"")?;
     left.shows(0, "new 1 Main\nend\n")?;
     Ok(())
 }
@@ -217,7 +217,7 @@ fn perform_turns(alloc: Global, turns: &str) -> Result<Left, NoMemory> {
         turns,
         "Main.mxml",
     ];
-    perform(alloc, &words, "Main.mxml", LABEL, "")
+    perform(alloc, &words, "Main.mxml", LABEL, b"")
 }
 
 #[test]
@@ -241,16 +241,32 @@ fn other_sources_are_not_yet_built(rt: HostRuntime) -> Result<(), Fail> {
         "<s:Button id=\"go\" click=\"trace('on')\"/>",
     ];
     for elements in cases {
-        let left = perform(rt.alloc(), WORDS, "Main.mxml", elements, "#")?;
+        let left = perform(rt.alloc(), WORDS, "Main.mxml", elements, b"x")?;
         left.refuses(3, NOT_YET)?;
     }
     Ok(())
 }
 
 #[test]
-fn a_script_with_lines_is_not_yet_read(rt: HostRuntime) -> Result<(), Fail> {
-    let left = perform(rt.alloc(), WORDS, "Main.mxml", LABEL, "#")?;
-    left.refuses(4, SCRIPT_NOT_YET)?;
+fn lines_that_say_nothing_are_skipped(rt: HostRuntime) -> Result<(), Fail> {
+    let scripts: [&[u8]; 4] = [b"\n", b"\r\n\n", b"#", b"#click a\r\n\n# \xc3\xa9\n"];
+    for script in scripts {
+        let left = perform(rt.alloc(), WORDS, "Main.mxml", LABEL, script)?;
+        left.shows(0, TRACE)?;
+    }
+    Ok(())
+}
+
+#[test]
+fn other_lines_are_not_yet_played(rt: HostRuntime) -> Result<(), Fail> {
+    let first: [&[u8]; 5] = [b"click a", b" ", b"\r", b"#\xff\n", b" #\n"];
+    for script in first {
+        let left = perform(rt.alloc(), WORDS, "Main.mxml", LABEL, script)?;
+        left.refuses(4, SCRIPT_NOT_YET)?;
+    }
+    let third = b"#a\n\r\nclick a\nclick a\n";
+    let left = perform(rt.alloc(), WORDS, "Main.mxml", LABEL, third)?;
+    left.refuses(4, "script:3: not yet built\n")?;
     Ok(())
 }
 
@@ -286,7 +302,7 @@ const OTHER_MAIN: &[&str] = &[
 fn words_of_no_command(rt: HostRuntime) -> Result<(), Fail> {
     let cases: [&[&str]; 3] = [&[], &["fly"], SEVEN];
     for words in cases {
-        let left = perform(rt.alloc(), words, "Main.mxml", LABEL, "")?;
+        let left = perform(rt.alloc(), words, "Main.mxml", LABEL, b"")?;
         left.refuses(2, BAD_USAGE)?;
     }
     Ok(())
@@ -294,16 +310,16 @@ fn words_of_no_command(rt: HostRuntime) -> Result<(), Fail> {
 
 #[test]
 fn files_that_do_not_stand(rt: HostRuntime) -> Result<(), Fail> {
-    let left = perform(rt.alloc(), WORDS, "main.mxml", LABEL, "")?;
+    let left = perform(rt.alloc(), WORDS, "main.mxml", LABEL, b"")?;
     left.refuses(7, SOURCE_UNREAD)?;
-    let left = perform(rt.alloc(), NO_SCRIPT, "Main.mxml", LABEL, "")?;
+    let left = perform(rt.alloc(), NO_SCRIPT, "Main.mxml", LABEL, b"")?;
     left.refuses(7, "cannot read none.txt\n")?;
     Ok(())
 }
 
 #[test]
 fn main_has_its_name(rt: HostRuntime) -> Result<(), Fail> {
-    let left = perform(rt.alloc(), OTHER_MAIN, "Other.mxml", LABEL, "")?;
+    let left = perform(rt.alloc(), OTHER_MAIN, "Other.mxml", LABEL, b"")?;
     left.refuses(3, "Other.mxml:1:1: NotYetBuilt\n")?;
     Ok(())
 }
@@ -552,7 +568,7 @@ const END: &[u8] = b"\x09\x13\x01\0\0\0Main\0\x40\0\0\0";
 
 #[test]
 fn the_layout_of_the_file(rt: HostRuntime) -> Result<(), Fail> {
-    let left = perform(rt.alloc(), WORDS, "Main.mxml", LABEL, "")?;
+    let left = perform(rt.alloc(), WORDS, "Main.mxml", LABEL, b"")?;
     let file = left.written()?;
     assert!(rt; file.len() > 67);
     assert!(rt; file.starts_with(MAGIC));
@@ -564,7 +580,7 @@ fn the_layout_of_the_file(rt: HostRuntime) -> Result<(), Fail> {
 
 #[test]
 fn the_lengths_in_the_file(rt: HostRuntime) -> Result<(), Fail> {
-    let left = perform(rt.alloc(), WORDS, "Main.mxml", LABEL, "")?;
+    let left = perform(rt.alloc(), WORDS, "Main.mxml", LABEL, b"")?;
     let file = left.written()?;
     assert!(rt; file.len() > 67);
     assert_eq!(rt; file[4] as usize + 256 * file[5] as usize, file.len());
