@@ -5,9 +5,10 @@ use Rattle.std.specs.Str.{bytes_eq}
 use Rattle.flex_base.specs.declared.value.Value.{Value}
 use Rattle.avm2_machine.specs.declared.stage.Slot.{Slot}
 use Rattle.avm2_machine.specs.declared.stage.Object.{Object}
+use Rattle.avm2_machine.specs.declared.stage.Registration.{Registration}
 use Rattle.avm2_machine.specs.declared.stage.Stage.{Stage}
 use Rattle.flex_base.specs.declared.value.ObjId.{ObjId}
-use Rattle.avm2_machine.specs.Stage.{changed_at, changed_number, numbered, object_at, property, slot_of, with_child, with_property, with_value, place_of, slot_named, one_later}
+use Rattle.avm2_machine.specs.Stage.{changed_at, changed_number, numbered, object_at, property, slot_of, with_last, with_parent, with_listener, with_property, with_value, place_of, slot_named, one_later}
 
 pub changed_at-set : (f : Object → Object) (objects : List Object) (n : ℕ) (o : Object) → slice_get objects n ≡ Some o → changed_at f objects n ≡ slice_set objects n (f o)
 changed_at-set f [] n o h = refl
@@ -20,6 +21,17 @@ changed_number-set f objects (suc n) o pos h =
     let e : suc n - 1 ≡ n = omega arith in
     let at : slice_get objects n ≡ Some o = subst (λ k. slice_get objects k ≡ Some o) e h in
     subst (λ k. changed_at f objects n ≡ slice_set objects k (f o)) (sym e) (changed_at-set f objects n o at)
+
+pub changed_at-none : (f : Object → Object) (objects : List Object) (n : ℕ) → slice_get objects n ≡ None → changed_at f objects n ≡ objects
+changed_at-none f [] n h = refl
+changed_at-none f (x ∷ objects) zero h = absurd (cc)
+changed_at-none f (x ∷ objects) (suc n) h = ap (λ xs. x ∷ xs) (changed_at-none f objects n h)
+
+pub changed_number-none : (f : Object → Object) (objects : List Object) (n : ℕ) → 0 < n → slice_get objects (n - 1) ≡ None → changed_number f objects n ≡ objects
+changed_number-none f objects zero pos h = refl
+changed_number-none f objects (suc n) pos h =
+    let e : suc n - 1 ≡ n = omega arith in
+    changed_at-none f objects n (subst (λ k. slice_get objects k ≡ None) e h)
 
 pub numbered-get : (objects : List Object) (n : ℕ) → 0 < n → numbered objects n ≡ slice_get objects (n - 1)
 numbered-get objects zero pos = absurd (omega arith)
@@ -53,10 +65,36 @@ pub slot_named-none : (name : List ℕ) (slots : List Slot) → place_of name sl
 slot_named-none name [] h = refl
 slot_named-none name (x ∷ slots) h = slot_named-cases name x slots (slot_named-none name slots) (bytes_eq x.name name) (place_of name slots) refl h
 
-pub with_child-set : (s : Stage) (container child : ObjId) (o : Object) → 0 < container.0 → Some o ≡ slice_get s.objects (container.0 - 1) → record s { objects = slice_set s.objects (container.0 - 1) (record o { children = o.children ++ child ∷ [] }) } ≡ with_child container child s
-with_child-set s container child o pos h =
+pub with_last-set : (s : Stage) (container child : ObjId) (o : Object) → 0 < container.0 → Some o ≡ slice_get s.objects (container.0 - 1) → record s { objects = slice_set s.objects (container.0 - 1) (record o { children = o.children ++ child ∷ [] }) } ≡ with_last container child s
+with_last-set s container child o pos h =
     let F : List Object → Stage = λ objects. record s { objects = objects } in
     ap F (sym (changed_number-set (λ object. record object { children = object.children ++ child ∷ [] }) s.objects container.0 o pos (sym h)))
+
+pub with_parent-set : (s : Stage) (container child : ObjId) (o : Object) → 0 < child.0 → Some o ≡ slice_get s.objects (child.0 - 1) → record s { objects = slice_set s.objects (child.0 - 1) (record o { parent = Some container }) } ≡ with_parent container child s
+with_parent-set s container child o pos h =
+    let F : List Object → Stage = λ objects. record s { objects = objects } in
+    ap F (sym (changed_number-set (λ object. record object { parent = Some container }) s.objects child.0 o pos (sym h)))
+
+pub with_listener-set : (s : Stage) (at : ObjId) (listener : Registration) (o : Object) → 0 < at.0 → Some o ≡ slice_get s.objects (at.0 - 1) → record s { objects = slice_set s.objects (at.0 - 1) (record o { listeners = o.listeners ++ listener ∷ [] }) } ≡ with_listener at listener s
+with_listener-set s at listener o pos h =
+    let F : List Object → Stage = λ objects. record s { objects = objects } in
+    ap F (sym (changed_number-set (λ object. record object { listeners = object.listeners ++ listener ∷ [] }) s.objects at.0 o pos (sym h)))
+
+-- an object that isn't there can't be changed
+pub with_last-none : (s : Stage) (container child : ObjId) → 0 < container.0 → None ≡ slice_get s.objects (container.0 - 1) → s ≡ with_last container child s
+with_last-none s container child pos h =
+    let F : List Object → Stage = λ objects. record s { objects = objects } in
+    ap F (sym (changed_number-none (λ object. record object { children = object.children ++ child ∷ [] }) s.objects container.0 pos (sym h)))
+
+pub with_parent-none : (s : Stage) (container child : ObjId) → 0 < child.0 → None ≡ slice_get s.objects (child.0 - 1) → s ≡ with_parent container child s
+with_parent-none s container child pos h =
+    let F : List Object → Stage = λ objects. record s { objects = objects } in
+    ap F (sym (changed_number-none (λ object. record object { parent = Some container }) s.objects child.0 pos (sym h)))
+
+pub with_listener-none : (s : Stage) (at : ObjId) (listener : Registration) → 0 < at.0 → None ≡ slice_get s.objects (at.0 - 1) → s ≡ with_listener at listener s
+with_listener-none s at listener pos h =
+    let F : List Object → Stage = λ objects. record s { objects = objects } in
+    ap F (sym (changed_number-none (λ object. record object { listeners = object.listeners ++ listener ∷ [] }) s.objects at.0 pos (sym h)))
 
 pub with_property-set : (s : Stage) (o : ObjId) (name : List ℕ) (v : Value) (object : Object) (n : ℕ) (slot : Slot) → 0 < o.0 → Some object ≡ slice_get s.objects (o.0 - 1) → Some n ≡ place_of name object.slots → Some slot ≡ slice_get object.slots n → record s { objects = slice_set s.objects (o.0 - 1) (record object { slots = slice_set object.slots n (record slot { value = v }) }) } ≡ with_property o name v s
 with_property-set s o name v object n slot pos h at g =
@@ -86,4 +124,4 @@ pub some_or_none : (p : Option ℕ) → IsSome p → None ≡ p → ⊥
 some_or_none None h e = cc
 some_or_none (Some n) h e = cc
 
-pub ruleset changes = (with_child-set, with_property-set, has_place)
+pub ruleset changes = (with_last-set, with_last-none, with_parent-set, with_parent-none, with_listener-set, with_listener-none, with_property-set, has_place)

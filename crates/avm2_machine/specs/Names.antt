@@ -1,5 +1,5 @@
 -- The names of an ABC's pool, by their texts.
-use Rattle.std.specs.Prelude.{ℕ, zero, suc, List, [], Bool, ◌&&◌, Option, Some, None, slice_get, codes, if◌then◌else◌}
+use Rattle.std.specs.Prelude.{ℕ, zero, suc, List, [], Bool, true, false, ◌&&◌, Option, Some, None, slice_get, codes, if◌then◌else◌}
 use Rattle.std.specs.Str.{bytes_eq}
 use Rattle.abc_format.specs.declared.records.Abc.{Abc}
 use Rattle.abc_format.specs.declared.records.Namespace.{Namespace}
@@ -8,6 +8,8 @@ use Rattle.abc_format.specs.declared.records.Multiname.TheVariants.{QName}
 use Rattle.avm2_machine.specs.declared.names.Name as Borrowed
 use Rattle.avm2_machine.specs.declared.catalog.NativeClass.{NativeClass}
 use Rattle.avm2_machine.specs.declared.catalog.NativeClass.TheVariants.{Application, Label, Button}
+use Rattle.avm2_machine.specs.declared.frame.Operand.{Operand}
+use Rattle.avm2_machine.specs.declared.frame.Operand.TheVariants as operand
 
 -- a qualified name: the text of its namespace, and its own text
 pub record Name : Type 0 where
@@ -61,6 +63,16 @@ class_named space local =
     if bytes_eq space (codes "spark.components") then
     (if bytes_eq local (codes "Application") then Some Application else if bytes_eq local (codes "Label") then Some Label else if bytes_eq local (codes "Button") then Some Button else None)
     else None
+
+-- who holds a name that is looked up: the native script, which has `trace` and the native classes
+abbrev pub holder_of : Bool → Option NativeClass → Option Operand
+holder_of true c = Some operand.Natives
+holder_of false None = None
+holder_of false (Some c) = Some operand.Natives
+
+abbrev pub holder : Option Name → Option Operand
+holder None = None
+holder (Some n) = holder_of (is_name n [] (codes "trace")) (class_named n.space n.local)
 
 abbrev pub class_of_name : Option Name → Option NativeClass
 class_of_name None = None

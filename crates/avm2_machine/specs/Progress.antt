@@ -4,6 +4,8 @@ use Rattle.abc_format.specs.declared.records.Abc.{Abc}
 use Rattle.abc_format.specs.declared.records.MethodBody.{MethodBody}
 use Rattle.flex_base.specs.declared.outcome.Outcome.{Outcome}
 use Rattle.avm2_machine.specs.declared.frame.CodeFrame.{CodeFrame}
+use Rattle.avm2_machine.specs.declared.frame.Frame.{Frame}
+use Rattle.avm2_machine.specs.declared.frame.Frame.TheVariants as frame
 use Rattle.avm2_machine.specs.declared.machine.Load.{Load}
 use Rattle.avm2_machine.specs.declared.machine.Load.TheVariants as load
 use Rattle.avm2_machine.specs.declared.machine.Machine.{Machine}
@@ -34,9 +36,17 @@ code_length (Some body) = length body.code
 abbrev pub frame_left : Abc → CodeFrame → ℕ
 frame_left abc f = suc (code_length (slice_get abc.method_bodies f.body) - f.pc)
 
-abbrev pub frames_left : Abc → List CodeFrame → ℕ
+-- what remains of a frame: of a dispatch the nodes to come, since each listener takes a turn
+abbrev pub left_of : Abc → Frame → ℕ
+left_of abc (frame.Code f) = frame_left abc f
+left_of abc (frame.User line) = 1
+left_of abc (frame.Miss name) = 1
+left_of abc (frame.Click c) = suc (suc (length c.nodes))
+left_of abc (frame.Dispatch d) = suc (length d.nodes)
+
+abbrev pub frames_left : Abc → List Frame → ℕ
 frames_left abc [] = 0
-frames_left abc (f ∷ frames) = frame_left abc f + frames_left abc frames
+frames_left abc (f ∷ frames) = left_of abc f + frames_left abc frames
 
 abbrev pub load_left : Abc → Load → ℕ
 load_left abc (load.Scripts n) = suc (suc (times (length abc.scripts - n) (longest abc)))

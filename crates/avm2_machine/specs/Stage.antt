@@ -8,6 +8,7 @@ use Rattle.flex_base.specs.declared.outcome.Stop.TheVariants as stop
 use Rattle.flex_base.specs.declared.value.ObjId.{ObjId}
 use Rattle.flex_base.specs.declared.value.Value.{Value}
 use Rattle.flex_base.specs.declared.value.Value.TheVariants as value
+use Rattle.avm2_machine.specs.Events.{ancestors}
 use Rattle.avm2_machine.specs.declared.catalog.NativeClass.{NativeClass}
 use Rattle.avm2_machine.specs.declared.catalog.NativeClass.TheVariants as native
 use Rattle.avm2_machine.specs.declared.stage.Class.{Class}
@@ -16,6 +17,7 @@ use Rattle.avm2_machine.specs.declared.stage.PropertyType.{PropertyType}
 use Rattle.avm2_machine.specs.declared.stage.PropertyType.TheVariants as type
 use Rattle.avm2_machine.specs.declared.stage.Slot.{Slot}
 use Rattle.avm2_machine.specs.declared.stage.Object.{Object}
+use Rattle.avm2_machine.specs.declared.stage.Registration.{Registration}
 use Rattle.avm2_machine.specs.declared.stage.Stage.{Stage}
 
 -- a stage without objects
@@ -31,6 +33,7 @@ same_native _ _ = false
 abbrev pub same_class : Class → Class → Bool
 same_class (class.File a) (class.File b) = a == b
 same_class (class.Native a) (class.Native b) = same_native a b
+same_class class.MouseEvent class.MouseEvent = true
 same_class _ _ = false
 
 -- what an object costs of whose class so many properties are declared
@@ -48,7 +51,10 @@ next_object s = record { 0 = suc (length s.objects) }
 -- with one object more
 abbrev pub with_object : Class → List Slot → ℕ → Stage → Stage
 with_object class slots declared s =
-    record { objects = s.objects ++ record { class = class; slots = slots; children = [] } ∷ []; cells = s.cells + cost declared }
+    record {
+      objects = s.objects ++ record { class = class; slots = slots; children = []; parent = None; listeners = [] } ∷ [];
+      cells = s.cells + cost declared;
+    }
 
 -- the object of a number, which counts from 1
 abbrev pub numbered : List Object → ℕ → Option Object
@@ -97,8 +103,19 @@ changed_number f objects (suc n) = changed_at f objects n
 abbrev pub with_property : ObjId → List ℕ → Value → Stage → Stage
 with_property o name v s = record s { objects = changed_number (λ object. record object { slots = with_value name v object.slots }) s.objects o.0 }
 
+abbrev pub with_last : ObjId → ObjId → Stage → Stage
+with_last container child s = record s { objects = changed_number (λ object. record object { children = object.children ++ child ∷ [] }) s.objects container.0 }
+
+abbrev pub with_parent : ObjId → ObjId → Stage → Stage
+with_parent container child s = record s { objects = changed_number (λ object. record object { parent = Some container }) s.objects child.0 }
+
+-- with a child behind the others of a container, which is its parent now
 abbrev pub with_child : ObjId → ObjId → Stage → Stage
-with_child container child s = record s { objects = changed_number (λ object. record object { children = object.children ++ child ∷ [] }) s.objects container.0 }
+with_child container child s = with_parent container child (with_last container child s)
+
+-- with a listener behind those that an object has
+abbrev pub with_listener : ObjId → Registration → Stage → Stage
+with_listener o listener s = record s { objects = changed_number (λ object. record object { listeners = object.listeners ++ listener ∷ [] }) s.objects o.0 }
 
 -- whether a value is of a type, as far as the emitted code needs it
 abbrev pub has_class : Class → Option Object → Bool
@@ -119,6 +136,26 @@ abbrev pub native_slots : NativeClass → List Slot
 native_slots native.Application = []
 native_slots native.Label = text_slot (codes "text") ∷ []
 native_slots native.Button = text_slot (codes "label") ∷ []
+
+abbrev pub parent_of : Option Object → Option ObjId
+parent_of None = None
+parent_of (Some object) = object.parent
+
+-- an object's parent
+abbrev pub parent : Stage → ObjId → Option ObjId
+parent s o = parent_of (object_at s o)
+
+-- an object's parent, that one's parent, and so on
+abbrev pub outer : Stage → ObjId → List ObjId
+outer s o = ancestors (parent s) (length s.objects) o
+
+abbrev pub listeners_of : Option Object → List Registration
+listeners_of None = []
+listeners_of (Some object) = object.listeners
+
+-- the listeners that an object has, in order of registration
+abbrev pub listeners : Stage → ObjId → List Registration
+listeners s o = listeners_of (object_at s o)
 
 abbrev pub children_of : Option Object → Option (List ObjId)
 children_of None = None

@@ -1,9 +1,10 @@
 -- What the machine looks up in an ABC.
-use Rattle.std.specs.Prelude.{ℕ, suc, ◌-◌, List, [], ◌∷◌, ◌++◌, Bool, true, false, ◌&&◌, ◌||◌, option_map, if◌then◌else◌, ◌==◌, Option, Some, None, slice_get, replicate}
+use Rattle.std.specs.Prelude.{ℕ, suc, ◌-◌, List, [], ◌∷◌, ◌++◌, length, codes, Bool, true, false, ◌&&◌, ◌||◌, option_map, if◌then◌else◌, ◌==◌, Option, Some, None, slice_get, replicate}
 use Rattle.std.specs.Result.{result_ok}
 use Rattle.std.specs.Str.{bytes_eq}
 use Rattle.abc_format.specs.declared.records.Abc.{Abc}
 use Rattle.abc_format.specs.declared.records.MethodBody.{MethodBody}
+use Rattle.abc_format.specs.declared.records.MethodInfo.{MethodInfo}
 use Rattle.abc_format.specs.declared.records.ScriptInfo.{ScriptInfo}
 use Rattle.abc_format.specs.declared.records.Trait.{Trait}
 use Rattle.abc_format.specs.declared.records.TraitKind.{TraitKind}
@@ -44,9 +45,9 @@ abbrev pub local_count : Option MethodBody → ℕ
 local_count None = 0
 local_count (Some body) = body.local_count
 
--- the locals of a body without arguments when it is entered: the receiver, and then undefined
-abbrev pub first_locals : Abc → ℕ → Operand → List Operand
-first_locals abc body receiver = receiver ∷ replicate (local_count (slice_get abc.method_bodies body) - 1) (operand.Value value.Undefined)
+-- the locals of a body when it is entered: the receiver and the arguments, and then undefined
+abbrev pub first_locals : Abc → ℕ → List Operand → List Operand
+first_locals abc body given = given ++ replicate (local_count (slice_get abc.method_bodies body) - length given) (operand.Value value.Undefined)
 
 abbrev pub public_text : Option Name → Option (List ℕ)
 public_text None = None
@@ -55,6 +56,22 @@ public_text (Some n) = if bytes_eq n.space [] then Some n.local else None
 -- the text of a public name
 abbrev pub public_at : Abc → ℕ → Option (List ℕ)
 public_at abc name = public_text (name_at abc name)
+
+abbrev pub named : Option Name → Name → Bool
+named None name = false
+named (Some other) name = same_name other name
+
+-- whether the one parameter of a method is for the event of a click
+abbrev pub takes_click : Abc → List ℕ → Bool
+takes_click abc (parameter ∷ []) = named (name_at abc parameter) (record { space = codes "flash.events"; local = codes "MouseEvent" })
+takes_click abc _ = false
+
+abbrev pub takes_clicks : Abc → Option MethodInfo → Bool
+takes_clicks abc None = false
+takes_clicks abc (Some method) = takes_click abc method.param_types
+
+abbrev pub hears_clicks : Abc → ℕ → Bool
+hears_clicks abc method = takes_clicks abc (slice_get abc.methods method)
 
 abbrev pub typed_slot : Option (List ℕ) → Option NativeClass → Option Slot
 typed_slot None c = None
@@ -75,10 +92,6 @@ and_slot (Some (Some slot)) slots k = k (slots ++ slot ∷ [])
 abbrev pub declared_onto : Abc → List Trait → List Slot → Option (List Slot)
 declared_onto abc [] slots = Some slots
 declared_onto abc (t ∷ traits) slots = and_slot (declared_slot abc t.name t.kind) slots (declared_onto abc traits)
-
-abbrev pub named : Option Name → Name → Bool
-named None name = false
-named (Some other) name = same_name other name
 
 abbrev pub is_named : Abc → ℕ → Name → Bool
 is_named abc number name = named (name_at abc number) name

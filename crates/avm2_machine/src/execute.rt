@@ -2,15 +2,15 @@
 
 ghost use Rattle.std.specs.Prelude.{◌≡◌, IfOk, OnOk, None, Some, slice_get, option_copied};
 ghost use Rattle.flex_base.specs.declared.outcome.MachineFault.TheVariants.{WrongKind};
-ghost use Rattle.avm2_machine.specs.Machine.{moved, executes, act, pushes, pushes_found, returns_void, sets_local, construct_prop, makes_native, construct_super, calls, calls_method, class_method, places, new_class, MarksMade, sets_property, inits_property};
+ghost use Rattle.avm2_machine.specs.Machine.{moved, executes, act, pushes, pushes_found, returns_void, sets_local, construct_prop, makes_native, construct_super, calls, calls_method, class_method, places, new_class, MarksMade, sets_property, gets_property, inits_property, listens, traces};
 ghost use Rattle.avm2_machine.specs.Names.{name_at, texts_of};
 ghost use Rattle.avm2_machine.specs.Tables.{fetch, public_at};
 
 use crate::catalog::NativeClass;
 use crate::frame::{CodeFrame, Operand};
-use crate::machine::Machine;
-use crate::names::{Name, entry, name_at, native_at, string_at};
-use crate::stage::{Class, Object, native_slots};
+use crate::machine::{Machine, alone};
+use crate::names::{Name, entry, is_native, name_at, native_at, string_at};
+use crate::stage::{Class, Object, Registration, native_slots};
 use crate::tables::{fetch, has_class_trait, method_named, public_at};
 use abc_format::Abc;
 use avm2_code::Instruction;
@@ -81,6 +81,10 @@ impl Machine {
                 Ok(None)
             }
             Instruction::SetProperty { name } => self.set_property(alloc, abc, frame, name),
+            Instruction::GetProperty { name } => {
+                self.get_property(alloc, abc, frame, name)?;
+                Ok(None)
+            }
             Instruction::InitProperty { name } => {
                 self.init_property(alloc, abc, frame, name)?;
                 Ok(None)
@@ -109,7 +113,7 @@ impl Machine {
         ensures { OnOk result (moved self.new None ≡ pushes operand frame self.old) }
     {
         frame.stack.push(operand)?;
-        self.frames.push(frame)
+        self.resume(frame)
     }
 
     // Pushes a text of the pool.
@@ -186,7 +190,7 @@ impl Machine {
             return Ok(());
         };
         *local = operand;
-        self.frames.push(frame)
+        self.resume(frame)
     }
 
     // Finds the holder of a name: the native script.
@@ -199,12 +203,11 @@ impl Machine {
     ) -> Result<(), NoMemory>
         ensures { OnOk result (moved self.new None ≡ act abc.now (Instruction.FindPropStrict name) frame self.old) }
     {
-        match native_at(abc, name) {
-            None => {
-                self.fault(alloc, MachineFault::NoName);
-                Ok(())
-            }
-            Some(_) => self.push(frame, Operand::Natives),
+        if is_native(abc, name) {
+            self.push(frame, Operand::Natives)
+        } else {
+            self.fault(alloc, MachineFault::NoName);
+            Ok(())
         }
     }
 
@@ -288,7 +291,7 @@ impl Machine {
             self.fault(alloc, MachineFault::WrongKind);
             return Ok(());
         };
-        self.frames.push(frame)
+        self.resume(frame)
     }
 
     // A call of a method without arguments, or the runtime call that adds a declared child.
@@ -306,19 +309,33 @@ impl Machine {
             self.fault(alloc, MachineFault::NoName);
             return Ok(None);
         };
-        if name.space == "flexc" && name.local == "place" {
+        if name.has_texts("flexc", "place") {
             if count != 3 {
                 self.fault(alloc, MachineFault::WrongCount);
                 return Ok(None);
             }
             return self.place(alloc, frame);
         }
+        if name.has_texts("", "addEventListener") {
+            if count != 2 {
+                self.fault(alloc, MachineFault::WrongCount);
+                return Ok(None);
+            }
+            self.add_event_listener(alloc, frame)?;
+            return Ok(None);
+        }
+        if name.has_texts("", "trace") {
+            if count != 1 {
+                self.fault(alloc, MachineFault::WrongCount);
+                return Ok(None);
+            }
+            return self.trace(alloc, frame);
+        }
         if count != 0 {
             self.fault(alloc, MachineFault::WrongCount);
             return Ok(None);
         }
-        self.call_method(alloc, abc, frame, name)?;
-        Ok(None)
+        self.call_method(alloc, abc, frame, name)
     }
 
     // A call of a method of the receiver's class.
@@ -328,19 +345,61 @@ impl Machine {
         abc: &Abc,
         mut frame: CodeFrame,
         name: Name<'_>,
-    ) -> Result<(), NoMemory>
-        ensures { OnOk result (moved self.new None ≡ calls_method abc.now (texts_of name.entry) frame.stack frame self.old) }
+    ) -> Result<Option<TraceItem>, NoMemory>
+        ensures { IfOk result (λ item. moved self.new item ≡ calls_method abc.now (texts_of name.entry) frame.stack frame self.old) }
     {
         let Some(Operand::Value(Value::Ref(object))) = frame.stack.pop() else {
             self.fault(alloc, MachineFault::WrongKind);
-            return Ok(());
+            return Ok(None);
         };
         let Some(method) = method_of(abc, self.stage.object(object), name) else {
             self.fault(alloc, MachineFault::NoName);
+            return Ok(None);
+        };
+        self.resume(frame)?;
+        let receiver = alone(alloc, Operand::Value(Value::Ref(object)))?;
+        self.enter(alloc, abc, method, receiver, None)
+    }
+
+    // The call `addEventListener`: adds a listener to an object.
+    fn add_event_listener(&mut self, alloc: Global, mut frame: CodeFrame) -> Result<(), NoMemory>
+        ensures { OnOk result (moved self.new None ≡ listens frame.stack frame self.old) }
+    {
+        let Some(Operand::Value(Value::Listener(object, method))) = frame.stack.pop() else {
+            self.fault(alloc, MachineFault::WrongKind);
             return Ok(());
         };
-        self.frames.push(frame)?;
-        self.enter(alloc, abc, method, Operand::Value(Value::Ref(object)))
+        let Some(Operand::Value(Value::Text(event))) = frame.stack.pop() else {
+            self.fault(alloc, MachineFault::WrongKind);
+            return Ok(());
+        };
+        let Some(Operand::Value(Value::Ref(node))) = frame.stack.pop() else {
+            self.fault(alloc, MachineFault::WrongKind);
+            return Ok(());
+        };
+        let listener = Registration {
+            event,
+            object,
+            method,
+        };
+        self.stage.listen(node, listener)?;
+        self.resume(frame)
+    }
+
+    // The call `trace`, with one argument.
+    fn trace(&mut self, alloc: Global, mut frame: CodeFrame) -> Result<Option<TraceItem>, NoMemory>
+        ensures { IfOk result (λ item. moved self.new item ≡ traces frame.stack frame self.old) }
+    {
+        let Some(Operand::Value(Value::Text(text))) = frame.stack.pop() else {
+            self.fault(alloc, MachineFault::WrongKind);
+            return Ok(None);
+        };
+        let Some(Operand::Natives) = frame.stack.pop() else {
+            self.fault(alloc, MachineFault::WrongKind);
+            return Ok(None);
+        };
+        self.resume(frame)?;
+        Ok(Some(TraceItem::Traced { text }))
     }
 
     // The runtime call `place`: adds a child to a container.
@@ -367,7 +426,7 @@ impl Machine {
             self.fault(alloc, MachineFault::WrongKind);
             return Ok(None);
         };
-        self.frames.push(frame)?;
+        self.resume(frame)?;
         Ok(Some(TraceItem::Added {
             parent,
             child,
@@ -398,14 +457,9 @@ impl Machine {
             return Ok(());
         }
         frame.stack.push(Operand::Class(Class::File(class)))?;
-        self.frames.push(frame)?;
-        self.open(
-            alloc,
-            abc,
-            info.cinit,
-            Operand::Class(Class::File(class)),
-            false,
-        )
+        self.resume(frame)?;
+        let receiver = alone(alloc, Operand::Class(Class::File(class)))?;
+        self.open(alloc, abc, info.cinit, receiver, false)
     }
 
     // Marks a class as made: false where it was made before, or isn't there.
@@ -452,7 +506,7 @@ impl Machine {
             return Ok(None);
         }
         let is_equal = same(&slot.value, &value);
-        self.frames.push(frame)?;
+        self.resume(frame)?;
         if is_equal {
             return Ok(None);
         }
@@ -463,6 +517,31 @@ impl Machine {
             property: Text::make(alloc, name)?,
             value: written,
         }))
+    }
+
+    // Pushes a method of an object as a listener.
+    fn get_property(
+        &mut self,
+        alloc: Global,
+        abc: &Abc,
+        mut frame: CodeFrame,
+        name: u32,
+    ) -> Result<(), NoMemory>
+        ensures { OnOk result (moved self.new None ≡ gets_property abc.now (name_at abc.now name) frame self.old) }
+    {
+        let Some(name) = name_at(abc, name) else {
+            self.fault(alloc, MachineFault::NoName);
+            return Ok(());
+        };
+        let Some(Operand::Value(Value::Ref(object))) = frame.stack.pop() else {
+            self.fault(alloc, MachineFault::WrongKind);
+            return Ok(());
+        };
+        let Some(method) = method_of(abc, self.stage.object(object), name) else {
+            self.fault(alloc, MachineFault::NotHere);
+            return Ok(());
+        };
+        self.push(frame, Operand::Value(Value::Listener(object, method)))
     }
 
     // Writes the class of a script's member into its slot, which no code here reads again.
@@ -487,7 +566,7 @@ impl Machine {
             self.fault(alloc, MachineFault::NoName);
             return Ok(());
         }
-        self.frames.push(frame)
+        self.resume(frame)
     }
 }
 

@@ -2,9 +2,10 @@
 
 ghost use Rattle.std.specs.Prelude.{◌≡◌, IfOk};
 
+use crate::dispatch::{Click, Dispatch};
 use crate::stack::Stack;
 use crate::stage::Class;
-use flex_base::{NoMemory, Sequence, Value};
+use flex_base::{NoMemory, Sequence, Text, Value};
 
 /// What the stack and the locals of a frame hold.
 #[derive(Drop)]
@@ -43,4 +44,16 @@ pub struct CodeFrame {
     pub locals: Sequence<Operand>,
     /// Whether it took a level, which its end gives back.
     pub is_activity: bool,
+}
+
+/// What is open, one upon another.
+#[derive(Drop)]
+pub enum Frame {
+    Code(CodeFrame),
+    /// A line of the script that begins.
+    User(Text),
+    /// A line of the script that reaches no component, by the name in it.
+    Miss(Text),
+    Click(Click),
+    Dispatch(Dispatch),
 }

@@ -2,6 +2,8 @@
 #![tactic(auto)]
 
 mod catalog;
+mod dispatch;
+mod event;
 mod execute;
 mod frame;
 mod machine;
@@ -11,7 +13,9 @@ mod stage;
 mod tables;
 
 pub use catalog::NativeClass;
-pub use frame::{CodeFrame, Operand};
+pub use dispatch::{Arrival, Call, Click, Dispatch, Phase};
+pub use event::UserEvent;
+pub use frame::{CodeFrame, Frame, Operand};
 pub use machine::{Load, Machine};
 pub use stack::Stack;
-pub use stage::{Class, Object, PropertyType, Slot, Stage};
+pub use stage::{Class, Object, PropertyType, Registration, Slot, Stage};

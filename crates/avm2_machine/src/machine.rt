@@ -1,11 +1,11 @@
 // The machine that plays an ABC, as far as the emitted code needs it.
 
-ghost use Rattle.std.specs.Prelude.{◌≡◌, ◌<◌, ◌++◌, [], None, false, IfOk, OnOk, slice_get, replicate};
-ghost use Rattle.avm2_machine.specs.Machine.{start, moved, ended, making, makes, opened, entered, makes_main, main_of, inits_script, loads, step, result_of};
+ghost use Rattle.std.specs.Prelude.{◌≡◌, ◌<◌, ◌++◌, [], ◌∷◌, None, Some, false, IfOk, OnOk, slice_get, replicate};
+ghost use Rattle.avm2_machine.specs.Machine.{start, moved, ended, making, makes, opened, opens_body, entered, with_frame, continues, idle, makes_main, main_of, inits_script, loads, step, result_of};
 ghost use Rattle.avm2_machine.specs.Progress.{remaining};
 ghost use Rattle.avm2_machine.specs.Tables.{declared_onto};
 
-use crate::frame::{CodeFrame, Operand};
+use crate::frame::{CodeFrame, Frame, Operand};
 use crate::stack::Stack;
 use crate::stage::{Class, Slot, Stage};
 use crate::tables::{body_of, declared_onto, first_locals, public_at};
@@ -33,10 +33,12 @@ pub enum Load {
 #[derive(Drop)]
 pub struct Machine {
     /// The open frames, the innermost first.
-    pub frames: Stack<CodeFrame>,
+    pub frames: Stack<Frame>,
     pub load: Load,
     /// For each class of the file, whether it was made.
     pub made: Sequence<bool>,
+    /// The main object, once it was made.
+    pub main: Option<ObjId>,
     pub stage: Stage,
     /// How many activities are open.
     pub level: u32,
@@ -56,6 +58,7 @@ impl Machine {
             frames: Stack::new(alloc),
             load: Load::Scripts(0),
             made,
+            main: None,
             stage: Stage::new(alloc),
             level: 0,
             turns,
@@ -63,15 +66,21 @@ impl Machine {
         })
     }
 
-    /// How the play ended, if it has: by itself where no frame is open and nothing of the load
-    /// remains.
+    /// Whether no frame is open and nothing of the load remains.
+    pub fn is_idle(&self) -> bool
+        ensures { result ≡ idle self.now }
+    {
+        self.frames.is_empty() && self.load == Load::Done
+    }
+
+    /// How the machine came to rest, if it has: its play is over, or it is idle.
     pub fn result(&self) -> Option<Outcome>
         ensures { result ≡ result_of self.now }
     {
-        match (self.outcome, self.load) {
-            (Some(outcome), _) => Some(outcome),
-            (None, Load::Done) if self.frames.is_empty() => Some(Outcome::Ended),
-            _ => None,
+        match self.outcome {
+            Some(outcome) => Some(outcome),
+            None if self.is_idle() => Some(Outcome::Ended),
+            None => None,
         }
     }
 
@@ -88,7 +97,25 @@ impl Machine {
     {
         match self.frames.pop() {
             None => self.load_next(alloc, abc, main),
-            Some(frame) => self.execute(alloc, abc, frame),
+            Some(frame) => self.go_on(alloc, abc, frame),
+        }
+    }
+
+    // The next step of a frame that was taken off.
+    fn go_on(
+        &mut self,
+        alloc: Global,
+        abc: &Abc,
+        frame: Frame,
+    ) -> Result<Option<TraceItem>, NoMemory>
+        ensures { IfOk result (λ item. moved self.new item ≡ continues abc.now frame self.old) }
+    {
+        match frame {
+            Frame::Code(frame) => self.execute(alloc, abc, frame),
+            Frame::User(line) => Ok(Some(TraceItem::User { line })),
+            Frame::Miss(path) => Ok(Some(TraceItem::Missed { path })),
+            Frame::Click(click) => self.send(alloc, click),
+            Frame::Dispatch(dispatch) => self.dispatch(alloc, abc, dispatch),
         }
     }
 
@@ -139,13 +166,8 @@ impl Machine {
             return Ok(());
         }
         self.load = Load::Scripts(number + 1);
-        self.open(
-            alloc,
-            abc,
-            scripts[number].init,
-            Operand::Script(number),
-            false,
-        )
+        let receiver = alone(alloc, Operand::Script(number))?;
+        self.open(alloc, abc, scripts[number].init, receiver, false)
     }
 
     // The main class is the first one of the file, if it was made and has this name.
@@ -189,9 +211,10 @@ impl Machine {
         let Some(object) = self.make(alloc, Class::File(0), slots, declared)? else {
             return Ok(None);
         };
+        self.main = Some(object);
+        let receiver = alone(alloc, Operand::Value(Value::Ref(object)))?;
+        self.enter(alloc, abc, instance.iinit, receiver, None)?;
         let class = main.clone()?;
-        let receiver = Operand::Value(Value::Ref(object));
-        self.enter(alloc, abc, instance.iinit, receiver)?;
         Ok(Some(TraceItem::Made { object, class }))
     }
 
@@ -206,7 +229,12 @@ impl Machine {
         ensures { IfOk result (λ object. makes class slots declared self.old ≡ making object self.new) }
     {
         if self.stage.objects.len() >= u32::MAX as usize {
-            self.fault(alloc, MachineFault::NotHere);
+            let outcome = if self.stage.is_full(declared) {
+                Outcome::Stopped(Stop::Cells)
+            } else {
+                Outcome::Fault(MachineFault::NotHere)
+            };
+            self.end(alloc, outcome);
             return Ok(None);
         }
         match self.stage.make(alloc, class, slots, declared) {
@@ -219,54 +247,88 @@ impl Machine {
         }
     }
 
-    // Begins an activity, which takes a level and a turn.
+    // Begins an activity, which takes a level and a turn: the record where it has started.
     pub(crate) fn enter(
         &mut self,
         alloc: Global,
         abc: &Abc,
         method: u32,
-        receiver: Operand,
-    ) -> Result<(), NoMemory>
-        ensures { OnOk result (self.new ≡ entered abc.now method receiver self.old) }
+        given: Sequence<Operand>,
+        item: Option<TraceItem>,
+    ) -> Result<Option<TraceItem>, NoMemory>
+        ensures { IfOk result (λ made. moved self.new made ≡ entered abc.now item method given self.old) }
     {
+        let Some(body) = body_of(abc, method) else {
+            self.fault(alloc, MachineFault::NotHere);
+            return Ok(None);
+        };
         if self.level >= MOST_LEVELS {
             self.end(alloc, Outcome::Stopped(Stop::Depth));
-            return Ok(());
+            return Ok(None);
         }
         if self.turns == 0 {
             self.end(alloc, Outcome::TurnsSpent);
-            return Ok(());
+            return Ok(None);
         }
         self.level += 1;
         self.turns -= 1;
-        self.open(alloc, abc, method, receiver, true)
+        self.open_body(alloc, abc, body, given, true)?;
+        Ok(item)
     }
 
-    // Opens the frame of a method without arguments.
+    // Opens the frame of a method, with the receiver and the arguments.
     pub(crate) fn open(
         &mut self,
         alloc: Global,
         abc: &Abc,
         method: u32,
-        receiver: Operand,
+        given: Sequence<Operand>,
         is_activity: bool,
     ) -> Result<(), NoMemory>
-        ensures { OnOk result (self.new ≡ opened abc.now method receiver is_activity self.old) }
+        ensures { OnOk result (self.new ≡ opened abc.now method given is_activity self.old) }
     {
         let Some(body) = body_of(abc, method) else {
             self.fault(alloc, MachineFault::NotHere);
             return Ok(());
         };
-        let locals = first_locals(alloc, abc, body, receiver)?;
-        self.frames.push(CodeFrame {
+        self.open_body(alloc, abc, body, given, is_activity)
+    }
+
+    fn open_body(
+        &mut self,
+        alloc: Global,
+        abc: &Abc,
+        body: usize,
+        given: Sequence<Operand>,
+        is_activity: bool,
+    ) -> Result<(), NoMemory>
+        ensures { OnOk result (self.new ≡ opens_body abc.now (Some body) given is_activity self.old) }
+    {
+        let locals = first_locals(abc, body, given)?;
+        self.resume(CodeFrame {
             body,
             pc: 0,
             stack: Stack::new(alloc),
             locals,
             is_activity,
-        })?;
-        Ok(())
+        })
     }
+
+    // A frame of code goes on.
+    pub(crate) fn resume(&mut self, frame: CodeFrame) -> Result<(), NoMemory>
+        ensures { OnOk result (self.new ≡ with_frame frame self.old) }
+    {
+        self.frames.push(Frame::Code(frame))
+    }
+}
+
+// A receiver without arguments.
+pub(crate) fn alone(alloc: Global, receiver: Operand) -> Result<Sequence<Operand>, NoMemory>
+    ensures { IfOk result (λ given. given ≡ receiver ∷ []) }
+{
+    let mut given = Sequence::new(alloc);
+    given.push(receiver)?;
+    Ok(given)
 }
 
 // So many classes that weren't made.

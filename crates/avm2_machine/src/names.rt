@@ -1,7 +1,8 @@
 // The names of an ABC's pool.
 
-ghost use Rattle.std.specs.Prelude.{◌≡◌, None, Some, MatchOption, option_copied};
-ghost use Rattle.avm2_machine.specs.Names.{entry, string_at, name_at, native_at, texts_of, same_name};
+ghost use Rattle.std.specs.Prelude.{◌≡◌, None, Some, MatchOption, option_copied, if◌then◌else◌};
+ghost use Rattle.avm2_machine.specs.Names.{entry, string_at, name_at, native_at, texts_of, same_name, is_name, holder};
+ghost use Rattle.avm2_machine.specs.declared.frame.Operand.TheVariants.{Natives};
 
 use crate::catalog::{NativeClass, class_named};
 use abc_format::{Abc, Multiname};
@@ -20,6 +21,13 @@ impl Name<'_> {
         ensures { result ≡ same_name (texts_of self.now) (texts_of other.now) }
     {
         self.space == other.space && self.local == other.local
+    }
+
+    /// Whether a name has these texts.
+    pub fn has_texts(&self, space: &str, local: &str) -> bool
+        ensures { result ≡ is_name (texts_of self.now) space.now local.now }
+    {
+        self.space == space && self.local == local
     }
 }
 
@@ -65,4 +73,15 @@ pub fn native_at(abc: &Abc, number: u32) -> Option<NativeClass>
 {
     let name = name_at(abc, number)?;
     class_named(name.space, name.local)
+}
+
+/// Whether the native script has a name that is looked up.
+pub fn is_native(abc: &Abc, number: u32) -> bool
+    ensures { holder (name_at abc.now number) ≡ (if result then Some Natives else None) }
+{
+    let Some(name) = name_at(abc, number) else {
+        return false;
+    };
+    (name.space.is_empty() && name.local == "trace")
+        || class_named(name.space, name.local).is_some()
 }

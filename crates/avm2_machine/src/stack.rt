@@ -2,7 +2,7 @@
 
 ghost use Rattle.std.specs.Prelude.{◌≡◌, ◌↔◌, [], ◌∷◌, IsTrue, OnOk, MatchOption};
 
-use flex_base::NoMemory;
+use flex_base::{NoMemory, Sequence};
 use std::alloc::Global;
 use std::marker::Model;
 
@@ -31,6 +31,15 @@ impl<T> Stack<T> {
         Stack {
             items: Vec::new(alloc),
         }
+    }
+
+    /// The stack of these items, the first on top.
+    pub fn from_sequence(items: Sequence<T>) -> Stack<T>
+        ensures { result ≡ items }
+    {
+        let mut items = items.into_vec();
+        items.reverse();
+        Stack { items }
     }
 
     /// Whether there is no item.

@@ -1,8 +1,9 @@
 // The objects of a play: their properties, their children, and the cells that they cost.
 
-ghost use Rattle.std.specs.Prelude.{◌≡◌, ◌<◌, ◌↔◌, ◌∷◌, ℕ, IsSome, IfSome, OnSome, IfOk, option_copied, length};
-ghost use Rattle.flex_base.specs.Value.{same};
-ghost use Rattle.avm2_machine.specs.Stage.{MakesObject, Places, with_property, next_place, children_of, empty_stage, object_at, property, place_of, slot_named, is_of, native_slots, same_native, same_class, text_slot};
+ghost use Rattle.std.specs.Prelude.{◌≡◌, ◌<◌, ◌+◌, min, IsSome, IfSome, IfOk, OnOk, option_copied, length};
+ghost use Rattle.std.specs.List.{list_any};
+ghost use Rattle.avm2_machine.specs.Machine.{is_object};
+ghost use Rattle.avm2_machine.specs.Stage.{MakesObject, Places, with_property, with_listener, with_last, with_parent, next_place, children_of, empty_stage, object_at, parent, outer, listeners, property, place_of, slot_named, is_of, native_slots, same_native, same_class, text_slot, too_many_cells, cost};
 
 use crate::catalog::NativeClass;
 use flex_base::{NoMemory, ObjId, RunRefusal, Sequence, Stop, Text, Value};
@@ -19,6 +20,8 @@ pub const OBJECT_CELLS: usize = 16;
 pub enum Class {
     File(u32),
     Native(NativeClass),
+    /// The native class of the events of clicks, of which no code makes an object.
+    MouseEvent,
 }
 
 /// The type of a property.
@@ -36,12 +39,23 @@ pub struct Slot {
     pub value: Value,
 }
 
+/// A listener that an object has: a method of an object, for the events of a type.
+#[derive(Drop)]
+pub struct Registration {
+    pub event: Text,
+    pub object: ObjId,
+    pub method: u32,
+}
+
 /// An object.
 #[derive(Drop)]
 pub struct Object {
     pub class: Class,
     pub slots: Sequence<Slot>,
     pub children: Sequence<ObjId>,
+    pub parent: Option<ObjId>,
+    /// In order of registration.
+    pub listeners: Sequence<Registration>,
 }
 
 /// All objects of a play, in the order of their numbers, from 1.
@@ -72,6 +86,7 @@ impl Class {
         match (self, other) {
             (Class::File(a), Class::File(b)) => a == b,
             (Class::Native(a), Class::Native(b)) => a.is(b),
+            (Class::MouseEvent, Class::MouseEvent) => true,
             _ => false,
         }
     }
@@ -99,9 +114,7 @@ impl Stage {
         requires { length self.old.objects < 4294967295 }
         ensures { MakesObject self.old class slots declared result self.new }
     {
-        let cells = declared
-            .saturating_add(OBJECT_CELLS)
-            .saturating_add(self.cells);
+        let cells = self.cells_with(declared);
         if cells > MOST_CELLS {
             return Err(RunRefusal::Stop(Stop::Cells));
         }
@@ -109,6 +122,8 @@ impl Stage {
             class,
             slots,
             children: Sequence::new(alloc),
+            parent: None,
+            listeners: Sequence::new(alloc),
         };
         if self.objects.push(object).is_err() {
             return Err(RunRefusal::NoMemory);
@@ -168,25 +183,130 @@ impl Stage {
         }
     }
 
+    /// The listeners that an object has, in order of registration.
+    pub fn listeners(&self, object: ObjId) -> &[Registration]
+        ensures { result.now ≡ listeners self.now object }
+    {
+        match self.object(object) {
+            None => &[],
+            Some(object) => object.listeners.as_slice(),
+        }
+    }
+
+    /// Adds a listener behind those that an object has.
+    #[tactic(auto, using(crate::proofs::Stages::changes))]
+    pub fn listen(&mut self, object: ObjId, listener: Registration) -> Result<(), NoMemory>
+        ensures { OnOk result (self.new ≡ with_listener object listener self.old) }
+    {
+        if object.0 == 0 {
+            return Ok(());
+        }
+        if let Some(object) = self.objects.get_mut(object.0 as usize - 1) {
+            object.listeners.push(listener)?;
+        }
+        Ok(())
+    }
+
+    /// An object's ancestors, the nearest first.
+    pub fn outer(&self, alloc: Global, object: ObjId) -> Result<Sequence<ObjId>, NoMemory>
+        ensures { IfOk result (λ ancestors. ancestors ≡ outer self.now object) }
+    {
+        let mut ancestors = Sequence::new(alloc);
+        let mut next = self.parent(object);
+        for _ in 0..self.objects.len() {
+            let Some(parent) = next else {
+                break;
+            };
+            ancestors.push(parent)?;
+            next = self.parent(parent);
+        }
+        Ok(ancestors)
+    }
+
+    /// Whether an object has this one as an ancestor.
+    pub fn is_inside(&self, object: ObjId, ancestor: ObjId) -> bool
+        ensures { result ≡ list_any (is_object ancestor) (outer self.now object) }
+    {
+        let mut next = self.parent(object);
+        for _ in 0..self.objects.len() {
+            let Some(parent) = next else {
+                return false;
+            };
+            if ancestor.0 == parent.0 {
+                return true;
+            }
+            next = self.parent(parent);
+        }
+        false
+    }
+
+    // An object's parent.
+    fn parent(&self, object: ObjId) -> Option<ObjId>
+        ensures { result ≡ parent self.now object }
+    {
+        self.object(object)?.parent
+    }
+
     /// Adds a child behind the others, and gives its place among them: `None` where there is no
     /// such container, or no number for the place.
-    #[tactic(auto, using(crate::proofs::Stages::changes))]
     pub fn place(&mut self, container: ObjId, child: ObjId) -> Result<Option<u32>, NoMemory>
         ensures { Places self.old container child result self.new }
     {
         let Some(place) = self.next_place(container) else {
             return Ok(None);
         };
+        self.put_last(container, child)?;
+        self.set_parent(container, child);
+        Ok(Some(place))
+    }
+
+    // Puts a child behind the others of a container.
+    #[tactic(auto, using(crate::proofs::Stages::changes))]
+    fn put_last(&mut self, container: ObjId, child: ObjId) -> Result<(), NoMemory>
+        ensures { OnOk result (self.new ≡ with_last container child self.old) }
+    {
+        if container.0 == 0 {
+            return Ok(());
+        }
         if let Some(container) = self.objects.get_mut(container.0 as usize - 1) {
             container.children.push(child)?;
         }
-        Ok(Some(place))
+        Ok(())
+    }
+
+    // Makes a container the parent of a child.
+    #[tactic(auto, using(crate::proofs::Stages::changes))]
+    fn set_parent(&mut self, container: ObjId, child: ObjId)
+        ensures { self.new ≡ with_parent container child self.old }
+    {
+        if child.0 == 0 {
+            return;
+        }
+        if let Some(child) = self.objects.get_mut(child.0 as usize - 1) {
+            child.parent = Some(container);
+        }
+    }
+
+    /// Whether the cells don't hold out for an object of whose class so many properties are
+    /// declared.
+    pub fn is_full(&self, declared: usize) -> bool
+        ensures { result ≡ too_many_cells declared self.now }
+    {
+        self.cells_with(declared) > MOST_CELLS
+    }
+
+    // The cells with one object more, as far as they can be counted.
+    fn cells_with(&self, declared: usize) -> usize
+        ensures { result ≡ min (self.now.cells + cost declared) 18446744073709551615 }
+    {
+        declared
+            .saturating_add(OBJECT_CELLS)
+            .saturating_add(self.cells)
     }
 
     // The place of the next child of a container.
     fn next_place(&self, container: ObjId) -> Option<u32>
-        ensures place { result ≡ next_place (children_of (object_at self.now container)) }
-        ensures there { OnSome result (0 < container.0) }
+        ensures { result ≡ next_place (children_of (object_at self.now container)) }
     {
         u32::try_from(self.object(container)?.children.len()).ok()
     }

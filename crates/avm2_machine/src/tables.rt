@@ -1,12 +1,12 @@
 // What the machine looks up in an ABC.
 
-ghost use Rattle.std.specs.Prelude.{◌≡◌, ◌+◌, ◌^◌, ◌<◌, ◌++◌, IfOk, OnOk, IfSome, MatchOption, None, Some, length, replicate};
+ghost use Rattle.std.specs.Prelude.{◌≡◌, ◌+◌, ◌<◌, ◌++◌, IfOk, OnOk, IfSome, MatchOption, None, Some, length, replicate};
 ghost use Rattle.avm2_machine.specs.declared.frame.Operand.TheVariants as operand;
 ghost use Rattle.flex_base.specs.declared.value.Value.TheVariants as value;
 ghost use Rattle.std.specs.Result.{result_ok};
 ghost use Rattle.avm2_code.specs.Reading.{instruction_at};
 ghost use Rattle.avm2_machine.specs.Names.{texts_of};
-ghost use Rattle.avm2_machine.specs.Tables.{fetch, body_of, body_in, first_locals, public_at, declared_slot, declared_onto, method_named, is_class, class_trait_in, has_class_trait};
+ghost use Rattle.avm2_machine.specs.Tables.{fetch, body_of, body_in, first_locals, public_at, declared_slot, declared_onto, method_named, is_class, class_trait_in, has_class_trait, takes_click, hears_clicks};
 
 use crate::frame::{CodeFrame, Operand};
 use crate::names::{Name, name_at, native_at};
@@ -57,27 +57,25 @@ fn body_in(method: u32, bodies: &[MethodBody]) -> Option<usize>
     }
 }
 
-/// The locals of a body without arguments when it is entered: the receiver, and then undefined.
+/// The locals of a body when it is entered: the receiver and the arguments, and then undefined.
 pub fn first_locals(
-    alloc: Global,
     abc: &Abc,
     body: usize,
-    receiver: Operand,
+    mut given: Sequence<Operand>,
 ) -> Result<Sequence<Operand>, NoMemory>
-    ensures { IfOk result (λ locals. locals ≡ first_locals abc.now body receiver) }
+    ensures { IfOk result (λ locals. locals ≡ first_locals abc.now body given) }
 {
-    let mut locals = Sequence::new(alloc);
-    locals.push(receiver)?;
     let count = match abc.method_bodies.get(body) {
         None => 0,
-        Some(body) => body.local_count,
+        Some(body) => body.local_count as usize,
     };
-    put_undefined(&mut locals, count.saturating_sub(1))?;
-    Ok(locals)
+    let others = count.saturating_sub(given.len());
+    put_undefined(&mut given, others)?;
+    Ok(given)
 }
 
 // So many locals that are undefined.
-fn put_undefined(locals: &mut Sequence<Operand>, count: u32) -> Result<(), NoMemory>
+fn put_undefined(locals: &mut Sequence<Operand>, count: usize) -> Result<(), NoMemory>
     ensures { OnOk result (locals.new ≡ locals.old ++ replicate count (operand.Value value.Undefined)) }
 {
     for index in 0..count {
@@ -95,6 +93,28 @@ pub fn public_at(abc: &Abc, name: u32) -> Option<&str>
         Some(name.local)
     } else {
         None
+    }
+}
+
+/// Whether a method has one parameter, and that is for the event of a click.
+pub fn hears_clicks(abc: &Abc, method: u32) -> bool
+    ensures { result ≡ hears_clicks abc.now method }
+{
+    match abc.methods.get(method as usize) {
+        None => false,
+        Some(method) => takes_click(abc, method.param_types.as_slice()),
+    }
+}
+
+fn takes_click(abc: &Abc, parameters: &[u32]) -> bool
+    ensures { result ≡ takes_click abc.now parameters.now }
+{
+    let [parameter] = parameters else {
+        return false;
+    };
+    match name_at(abc, *parameter) {
+        None => false,
+        Some(name) => name.space == "flash.events" && name.local == "MouseEvent",
     }
 }
 

@@ -17,10 +17,11 @@ use Rattle.flex_front.specs.declared.document.Document.{Document}
 use Rattle.flex_front.specs.Source.{IsId, IsText, IsElement, element_source, elements_source, IsShort, HasDocument, IsOneDocument, IsSmallDocument, IsShortSource, main_name, opening, closing}
 use Rattle.flex_front.specs.Parts.{BeginWith, HasNoBody, HasNoElements}
 use Rattle.flex_front.proofs.Lists.{all_read}
+use Rattle.flex_front.proofs.Names.{id_few, id_letters}
 
 -- an id and a text are UTF-8
 id_valid : (id : List ℕ) → IsId id → IsUtf8 id
-id_valid id fine = IsUtf8-from_ascii id (IsAscii-from_all id (λ k d lt. let letter = fine.letters k d lt in omega (arith, letter.to)))
+id_valid id fine = IsUtf8-from_ascii id (IsAscii-from_all id (λ k d lt. let letter = id_letters id fine k d lt in omega (arith, letter.to)))
 
 text_valid : (text : List ℕ) → IsText text → IsUtf8 text
 text_valid text fine = IsUtf8-from_ascii text (IsAscii-from_all text (λ k d lt. let byte = fine.plain k d lt in omega (arith, byte.to)))
@@ -83,9 +84,9 @@ one_document name bytes d e p q =
 
 -- the document of a source is small
 short : (e : Element) → IsElement e → IsShort e
-short (element.Label id text) fine = (fine.0.few, id_valid id fine.0, fine.1.few, text_valid text fine.1)
-short (element.Button id None) fine = (fine.few, id_valid id fine)
-short (element.Button id (Some text)) fine = (fine.0.few, id_valid id fine.0, fine.1.few, text_valid text fine.1)
+short (element.Label id text) fine = (id_few id fine.0, id_valid id fine.0, fine.1.few, text_valid text fine.1)
+short (element.Button id None) fine = (id_few id fine, id_valid id fine)
+short (element.Button id (Some text)) fine = (id_few id fine.0, id_valid id fine.0, fine.1.few, text_valid text fine.1)
 
 pub small_document : IsSmallDocument
 small_document name bytes document has = record { few = has.few; short = All-weaker IsElement IsShort short document.elements has.fine }
@@ -93,15 +94,15 @@ small_document name bytes document has = record { few = has.few; short = All-wea
 -- an element isn't long
 element_short : (e : Element) (rest : List ℕ) → IsElement e → length (element_source e rest) ≤ 300 + length rest
 element_short (element.Label id text) rest fine =
-    let few = fine.0.few in
+    let few = id_few id fine.0 in
     let brief = fine.1.few in
     let tail = codes "\"/>" ++ rest in
     omega (arith, few, brief, length-append id (codes "\" text=\"" ++ (text ++ tail)), length-append text tail)
 element_short (element.Button id None) rest fine =
-    let few = fine.few in
+    let few = id_few id fine in
     omega (arith, few, length-append id (codes "\"/>" ++ rest))
 element_short (element.Button id (Some text)) rest fine =
-    let few = fine.0.few in
+    let few = id_few id fine.0 in
     let brief = fine.1.few in
     let tail = codes "')\"/>" ++ rest in
     omega (arith, few, brief, length-append id (codes "\" click=\"trace('" ++ (text ++ tail)), length-append text tail)

@@ -137,3 +137,11 @@ pub part_or : (text : List ℕ) (r : Option (Part × Bor (List ℕ))) → HasNoL
     → MatchOption r (HasNoElement text) (λ x. BeginsWith text (element_of x.0) x.1.now)
 part_or text None no_label no_button = no_element text no_label no_button
 part_or text (Some x) no_label begins = begins
+
+-- a Button with a handler, part by part
+pub button_begins : (text id after click after_click rest : List ℕ) → IsPart IsId (codes "<s:Button id=\"") 34 text id after → IsPart IsText (codes " click=\"trace('") 39 after click after_click
+    → after_click ≡ codes ")\"/>" ++ rest → BeginsWith text (element.Button id (Some click)) rest
+button_begins text id after click after_click rest p q end = record {
+  is = p.is ∙ ap (λ l. codes "<s:Button id=\"" ++ (id ++ 34 ∷ l)) (q.is ∙ ap (λ l. codes " click=\"trace('" ++ (click ++ 39 ∷ l)) end);
+  fine = (p.fine, q.fine);
+}

@@ -10,7 +10,8 @@ use Rattle.std.proofs.lemmas.List.{get_or-take, length-take-le, append_cancel_le
 use Rattle.std.proofs.lemmas.List.Folds.{prefix_len-append}
 use Rattle.std.proofs.lemmas.List.Sums.{split_at_first, passes_at_first, fails_before_first, position_or_len_is}
 use Rattle.std.proofs.lemmas.Str.Pattern.{IsSplitOnceResult, split_once_first}
-use Rattle.flex_front.specs.Source.{IsLetter, IsPlain, IsId, IsText}
+use Rattle.flex_front.specs.Source.{IsPlain, IsId, IsText}
+use Rattle.flex_front.proofs.Names.{IsLetter, id_letters}
 use Rattle.flex_front.specs.Parts.{IsMark, Lacks, SplitsAt, IsPart, HasNoPart}
 
 is_same : (byte other : ℕ) → (byte == other) ≡ true → byte ≡ other
@@ -88,7 +89,7 @@ plain_is : (mark byte : ℕ) → IsMark mark → IsPlain byte → (byte == mark)
 plain_is mark byte is fine = grind (arith, nat_tests, is, fine.itself)
 
 pub id_lacks : (mark : ℕ) (id : List ℕ) → IsMark mark → IsId id → Lacks mark id
-id_lacks mark id is fine = lacks mark id (λ k lt. letter_is mark _ is (fine.letters k 0 lt))
+id_lacks mark id is fine = lacks mark id (λ k lt. letter_is mark _ is (id_letters id fine k 0 lt))
 
 pub text_lacks : (mark : ℕ) (text : List ℕ) → IsMark mark → IsText text → Lacks mark text
 text_lacks mark text is fine = lacks mark text (λ k lt. plain_is mark _ is (fine.plain k 0 lt))

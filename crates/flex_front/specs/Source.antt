@@ -1,32 +1,45 @@
 -- The sources that are built so far.
-use Rattle.std.specs.Prelude.{◌≡◌, ℕ, ◌<◌, ◌≤◌, List, [], ◌∷◌, ◌++◌, length, None, Some, All, false, ◌==◌, codes}
-use Rattle.std.specs.List.{list_any}
+use Rattle.std.specs.Prelude.{◌≡◌, ℕ, ◌≤◌, List, [], ◌∷◌, ◌++◌, length, None, Some, All, Bool, true, false, not, ◌&&◌, nat_lt, nat_le, ◌==◌, codes}
+use Rattle.std.specs.List.{list_all, list_any}
 use Rattle.std.specs.Str.{IsUtf8, bytes_eq}
 use Rattle.flex_front.specs.declared.document.Element.{Element}
 use Rattle.flex_front.specs.declared.document.Element.TheVariants as element
 use Rattle.flex_front.specs.declared.document.Document.{Document}
 
--- the keywords of ActionScript, and properties of an Application
-abbrev pub reserved : List (List ℕ)
-reserved =
+-- the keywords of ActionScript
+abbrev pub keywords : List (List ℕ)
+keywords =
     codes "as" ∷ codes "break" ∷ codes "case" ∷ codes "catch" ∷ codes "class" ∷ codes "const" ∷ codes "continue" ∷ codes "default" ∷ codes "delete"
     ∷ codes "do" ∷ codes "else" ∷ codes "extends" ∷ codes "false" ∷ codes "finally" ∷ codes "for" ∷ codes "function" ∷ codes "if" ∷ codes "implements"
     ∷ codes "import" ∷ codes "in" ∷ codes "instanceof" ∷ codes "interface" ∷ codes "internal" ∷ codes "is" ∷ codes "native" ∷ codes "new" ∷ codes "null"
     ∷ codes "override" ∷ codes "package" ∷ codes "private" ∷ codes "protected" ∷ codes "public" ∷ codes "return" ∷ codes "super" ∷ codes "switch"
     ∷ codes "this" ∷ codes "throw" ∷ codes "to" ∷ codes "true" ∷ codes "try" ∷ codes "typeof" ∷ codes "use" ∷ codes "var" ∷ codes "void" ∷ codes "while"
-    ∷ codes "with" ∷ codes "visible" ∷ codes "enabled" ∷ codes "x" ∷ codes "y" ∷ codes "width" ∷ codes "height" ∷ codes "parent" ∷ []
+    ∷ codes "with" ∷ []
+
+-- properties of an Application
+abbrev pub properties : List (List ℕ)
+properties = codes "visible" ∷ codes "enabled" ∷ codes "x" ∷ codes "y" ∷ codes "width" ∷ codes "height" ∷ codes "parent" ∷ []
+
+-- whether a word is one of these
+abbrev pub is_among : List (List ℕ) → List ℕ → Bool
+is_among words word = list_any (λ other. bytes_eq other word) words
 
 -- a lower-case letter
-pub record IsLetter (byte : ℕ) : Type 0 where
-  pub from : 97 ≤ byte
-  pub to : byte ≤ 122
+abbrev pub is_letter : ℕ → Bool
+is_letter byte = nat_le 97 byte && nat_le byte 122
+
+-- 1 to 32 bytes
+abbrev pub is_short : List ℕ → Bool
+is_short word = nat_lt 0 (length word) && nat_le (length word) 32
+
+-- a word that may be a name: 1 to 32 lower-case letters, and no keyword
+abbrev pub is_name : List ℕ → Bool
+is_name word = is_short word && (list_all is_letter word && not (is_among keywords word))
 
 -- a word that may be an id
 pub record IsId (word : List ℕ) : Type 0 where
-  pub some : 0 < length word
-  pub few : length word ≤ 32
-  pub letters : All IsLetter word
-  pub free : list_any (λ other. bytes_eq other word) reserved ≡ false
+  pub name : is_name word ≡ true
+  pub free : is_among properties word ≡ false
 
 -- a visible ASCII byte or a space that stands for itself: none of " ' < & { } @ \
 pub record IsPlain (byte : ℕ) : Type 0 where

@@ -9,3 +9,4 @@ mod words;
 
 pub use document::{Document, Element};
 pub use reading::{SourceRefusal, laws_of_sources, read_source};
+pub use words::is_name;

@@ -1,16 +1,17 @@
 // The ids and the texts of a source.
 
-ghost use Rattle.std.specs.Prelude.{◌↔◌, IsTrue};
-ghost use Rattle.flex_front.specs.Source.{IsId, IsLetter, IsPlain, IsText};
+ghost use Rattle.std.specs.Prelude.{◌≡◌, ◌↔◌, IsTrue};
+ghost use Rattle.flex_front.specs.Source.{IsId, IsPlain, IsText, is_among, is_letter, is_name, is_short, keywords};
+ghost use Rattle.std.specs.List.{list_all};
 
-/// The greatest number of letters of an id.
+/// The greatest number of letters of a name.
 const MOST_LETTERS: usize = 32;
 
 /// The greatest number of bytes of a text.
 const MOST_TEXT: usize = 200;
 
-/// Words that are no id: the keywords of ActionScript, and properties of an Application.
-const RESERVED: [&str; 53] = [
+/// The keywords of ActionScript.
+const KEYWORDS: [&str; 46] = [
     "as",
     "break",
     "case",
@@ -57,28 +58,48 @@ const RESERVED: [&str; 53] = [
     "void",
     "while",
     "with",
-    "visible",
-    "enabled",
-    "x",
-    "y",
-    "width",
-    "height",
-    "parent",
 ];
+
+/// Properties of an Application.
+const PROPERTIES: [&str; 7] = ["visible", "enabled", "x", "y", "width", "height", "parent"];
+
+/// Whether a word may be a name: 1 to 32 lower-case letters, and no keyword of ActionScript.
+pub fn is_name(word: &str) -> bool
+    ensures { result ≡ is_name word.now }
+{
+    is_short(word) && are_letters(word) && !is_keyword(word)
+}
+
+// Whether a word has 1 to 32 bytes.
+fn is_short(word: &str) -> bool
+    ensures { result ≡ is_short word.now }
+{
+    0 < word.len() && word.len() <= MOST_LETTERS
+}
+
+// Whether a word has lower-case letters alone.
+fn are_letters(word: &str) -> bool
+    ensures { result ≡ list_all is_letter word.now }
+{
+    word.as_bytes().iter().all(|byte| is_letter(*byte))
+}
+
+fn is_keyword(word: &str) -> bool
+    ensures { result ≡ is_among keywords word.now }
+{
+    KEYWORDS.contains(&word)
+}
 
 // Whether a word may be an id.
 pub fn is_id(word: &str) -> bool
     ensures { IsTrue result ↔ IsId word.now }
 {
-    !word.is_empty()
-        && word.len() <= MOST_LETTERS
-        && word.as_bytes().iter().all(|byte| is_letter(*byte))
-        && !RESERVED.contains(&word)
+    is_name(word) && !PROPERTIES.contains(&word)
 }
 
 // Whether a byte is a lower-case letter.
 fn is_letter(byte: u8) -> bool
-    ensures { IsTrue result ↔ IsLetter byte }
+    ensures { result ≡ is_letter byte }
 {
     b'a' <= byte && byte <= b'z'
 }

@@ -1,23 +1,16 @@
--- Plays of the machine that follow a meaning.
-use Rattle.std.proofs.Common.{◌≡◌, ℕ, zero, suc, List, [], refl, sym, subst}
+-- Runs of the machine that lead to where something holds.
+use Rattle.std.proofs.Common.{ℕ, suc, List}
 use Rattle.abc_format.specs.declared.records.Abc.{Abc}
 use Rattle.script_player.specs.Playing.{Config, advance, run}
 
 module _ (abc : Abc) (main : List ℕ) where
-  -- the machine goes from one configuration to another, without a line of a script
-  pub record Comes (c d : Config) : Type 0 where
+  -- the machine goes from a configuration to one of which this holds, without a line of a script
+  pub record Comes (c : Config) (P : Config → Type 0) : Type 0 where
     pub count : ℕ
-    pub is : run abc main [] count c ≡ d
+    pub holds : P (run abc main count c)
 
-  pub comes_here : (c : Config) → Comes c c
-  comes_here c = record { count = 0; is = refl }
+  pub comes_here : (c : Config) (P : Config → Type 0) → P c → Comes c P
+  comes_here c P h = record { count = 0; holds = h }
 
-  pub comes_then : (c d : Config) → Comes (advance abc main [] c) d → Comes c d
-  comes_then c d h = record { count = suc h.count; is = h.is }
-
-  comes_on_by : (k : ℕ) (c d e : Config) → run abc main [] k c ≡ d → Comes d e → Comes c e
-  comes_on_by zero c d e h m = subst (λ x. Comes x e) (sym h) m
-  comes_on_by (suc k) c d e h m = comes_then c e (comes_on_by k (advance abc main [] c) d e h m)
-
-  pub comes_on : (c d e : Config) → Comes c d → Comes d e → Comes c e
-  comes_on c d e h m = comes_on_by h.count c d e h.is m
+  pub comes_then : (c : Config) (P : Config → Type 0) → Comes (advance abc main c) P → Comes c P
+  comes_then c P h = record { count = suc h.count; holds = h.holds }

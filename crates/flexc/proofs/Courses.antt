@@ -1,20 +1,22 @@
 -- From the work of a command and the line that it says to what the command promises.
-use Rattle.std.proofs.Common.{◌≡◌, ◌≢◌, ℕ, ◌<◌, ◌≤◌, List, [], ◌++◌, length, Option, None, Some, Ok, Err, Result, inl, inr, refl, sym, ap, ◌∙◌, subst, arith}
+use Rattle.std.proofs.Common.{◌≡◌, ◌≢◌, ℕ, zero, suc, ◌<◌, ◌≤◌, List, [], ◌++◌, length, Option, None, Some, Ok, Err, Result, inl, inr, refl, sym, ap, ◌∙◌, subst, arith}
 use Rattle.std.specs.Prelude.{IsTrue, codes, slice_get, ◌⊎◌}
 use Rattle.std.specs.Option.{IsSomeAnd}
 use Rattle.std.proofs.lemmas.List.{append-nil}
 use Rattle.flex_base.specs.declared.outcome.Outcome.{Outcome}
-use Rattle.flex_base.specs.declared.outcome.Outcome.TheVariants.{Ended, TurnsSpent}
+use Rattle.flex_base.specs.declared.outcome.Outcome.TheVariants.{Ended, Stopped, TurnsSpent}
+use Rattle.flex_base.specs.declared.outcome.Stop.TheVariants.{Cells}
 use Rattle.flex_edge.specs.Outside.{Rose, FilesState, SinkState}
 use Rattle.flex_edge.specs.Calls.{SameCounts, Changes, SinkChanges}
 use Rattle.flexc.specs.Command.{status, status_after, outcome_status, IsEnd, HasRead, FailsToRead, At_source, At_script, HasBuilt, HasWrittenFile, Says, HasNoMemory, Early, Writing, Playing, Course, No_command, Cannot_read, Too_long, Not_built, Bad_script, Cannot_write, Cannot_print, No_memory, Has_played, HoldsFile, HasPrintedTrace, IsRunnable, NoFileFault, NoSinkFault, RunsWhole, RunsInPart, HoldsBoth, Refuses, For_words, For_long_source, For_long_script, For_source, For_script, HasSaid}
 use Rattle.flexc.specs.Meaning.{source_trace}
 use Rattle.script_player.specs.Playing.{HasTrace}
 use Rattle.flexc.specs.PlaysAs.{PlaysAs}
-use Rattle.flexc.specs.Lines.{other_line, script_line}
+use Rattle.flexc.specs.Lines.{script_of, script_line}
 use Rattle.flexc.specs.Words.{AreWords, Plain, With_turns, turns}
 use Rattle.script_player.specs.Printed.{HasPlayed, Plays}
-use Rattle.flexc.specs.Source.{HasDocument, IsNotBuilt}
+use Rattle.flex_front.specs.Source.{HasDocument, IsNotBuilt}
+use Rattle.avm2_machine.specs.declared.event.UserEvent.{UserEvent}
 use Rattle.script_player.specs.Trace.{Story, text, with_end}
 use Rattle.flex_edge.specs.Whole.{HasTaken, Prints}
 use Rattle.flexc.specs.Work.{HasFailed, HasRun, Reports}
@@ -26,7 +28,7 @@ use Rattle.flex_edge.specs.declared.output.WriteRefusal.{WriteRefusal}
 use Rattle.flex_edge.specs.declared.output.WriteRefusal.TheVariants as write
 use Rattle.flex_front.specs.declared.document.Document.{Document}
 use Rattle.flexc.proofs.EndsWell.{ends_so}
-use Rattle.flexc.proofs.Sources.{one_document, small_document, source_short}
+use Rattle.flex_front.proofs.Documents.{one_document, short_source as source_short}
 
 -- what failed, and what was said of it
 pub failed_course : (words : List (List ℕ)) (f : Failure) (old new : FilesState) (before mid after : SinkState) (answer : Status)
@@ -49,17 +51,30 @@ failed_course words (failure.ScriptNotYetBuilt line) old new before mid after an
     Bad_script n.script n.out n.main q.source q.commands q.document line n.are q.has_read q.has q.other (subst (λ s. Says 4 (script_line line) s after answer) h.1 r)
 failed_course words (failure.CannotWrite name) old new before mid after answer h r =
     let n = h.0 in
-    Cannot_write n.script name.now n.main n.document n.are n.written (subst (λ s. Says 8 (codes "cannot write " ++ name.now) s after answer) h.1 r)
+    Cannot_write n.script name.now n.main n.document n.events n.are n.written (subst (λ s. Says 8 (codes "cannot write " ++ name.now) s after answer) h.1 r)
 failed_course words failure.CannotPrint old new before mid after answer h r =
-    Cannot_print h.script h.out h.main h.document h.are h.written (subst (λ s. Plays h.written.bytes (turns words) before (Err write.Failed) s) (sym r.0) h.plays) r.1
+    Cannot_print h.script h.out h.main h.document h.events h.are h.written (subst (λ s. Plays h.written.bytes h.events (turns words) before (Err write.Failed) s) (sym r.0) h.plays) r.1
 failed_course words failure.NoMemory old new before mid after answer h r = No_memory (subst (λ s. HasNoMemory words old new before s) (sym r.0) h) r.1
 
 pub played_course : (words : List (List ℕ)) (outcome : Outcome) (old new : FilesState) (before after : SinkState) (answer : Status)
     → HasRun words outcome old new before after → answer ≡ outcome_status outcome → IsEnd outcome → Course words old new before after answer
-played_course words outcome old new before after answer h is comes = Has_played h.script h.out h.main h.document outcome h.are h.written h.plays is comes
+played_course words outcome old new before after answer h is comes = Has_played h.script h.out h.main h.document h.events outcome h.are h.written h.plays is comes
 
 some_is : {A : Type 0} (a b : A) → Some a ≡ Some b → a ≡ b
 some_is a b e = cc
+
+-- two results that are equal
+abbrev TheResult : (A B : Type 0) → Result A B → Result A B → Type 0
+TheResult A B a b = a ≡ b
+
+ok_is : {A B : Type 0} (a b : A) → TheResult A B (Ok a) (Ok b) → a ≡ b
+ok_is a b e = cc
+
+err_is : {A B : Type 0} (a b : B) → TheResult A B (Err a) (Err b) → a ≡ b
+err_is a b e = cc
+
+not_both : {A B : Type 0} (a : A) (b : B) → TheResult A B (Ok a) (Err b) → ⊥
+not_both a b e = cc
 
 -- the words of one command name the same files
 same_words : (words : List (List ℕ)) (s o m t p n : List ℕ) → AreWords words s o m → AreWords words t p n → (s ≡ t) × (o ≡ p) × (m ≡ n)
@@ -87,13 +102,22 @@ counts_read script main source commands old new r =
 
 module _ (words : List (List ℕ)) (old new : FilesState) where
   -- a document that was built of files that tell is the one that can be run
-  same_document : (document : Document) (r : IsRunnable words old document) (script out main : List ℕ) → AreWords words script out main → (mid : FilesState) (built : Document)
-      → HasBuilt script main built old mid → built ≡ document
-  same_document document r script out main are mid built h =
+  same_document : (document : Document) (events : List UserEvent) (r : IsRunnable words old document events) (script out main : List ℕ) → AreWords words script out main → (mid : FilesState)
+      (built : Document) (its : List UserEvent) → HasBuilt script main built its old mid → built ≡ document
+  same_document document events r script out main are mid built its h =
       let same = same_words words script out main r.script r.out r.main are r.are in
       let there = source_there script main h.source h.commands old mid h.read r.tells in
       let source : h.source ≡ r.source = some_is h.source r.source (sym there ∙ ap old.bytes_of same.2 ∙ r.source_there) in
       one_document r.main r.source built document (subst (λ m. HasDocument m r.source built) same.2 (subst (λ s. HasDocument main s built) source h.has)) r.has
+
+  -- so are the events of its script
+  same_events : (document : Document) (events : List UserEvent) (r : IsRunnable words old document events) (script out main : List ℕ) → AreWords words script out main → (mid : FilesState)
+      (built : Document) (its : List UserEvent) → HasBuilt script main built its old mid → its ≡ events
+  same_events document events r script out main are mid built its h =
+      let same = same_words words script out main r.script r.out r.main are r.are in
+      let is : h.commands ≡ r.commands =
+      some_is h.commands r.commands (sym (script_there script main h.source h.commands old mid h.read r.tells) ∙ ap old.bytes_of same.0 ∙ r.script_there) in
+      ok_is its events (sym h.says ∙ ap script_of is ∙ r.says)
 
   -- no reading failed
   read_fails : (script out main name : List ℕ) → AreWords words script out main → FailsToRead script main name read.Failed old new → NoFileFault old new → ⊥
@@ -102,15 +126,15 @@ module _ (words : List (List ℕ)) (old new : FilesState) where
       none.reads (subst (λ n. Rose n new.read_faults) first.1.counts.reads fails.counts.reads)
 
   -- no file is too long
-  read_long : (document : Document) (r : IsRunnable words old document) (script out main name : List ℕ) → AreWords words script out main
+  read_long : (document : Document) (events : List UserEvent) (r : IsRunnable words old document events) (script out main name : List ℕ) → AreWords words script out main
       → FailsToRead script main name read.TooLong old new → ⊥
-  read_long document r script out main name are (At_source is fails) =
+  read_long document events r script out main name are (At_source is fails) =
       let same = same_words words script out main r.script r.out r.main are r.are in
       let there : old.bytes_of main ≡ Some r.source = ap old.bytes_of same.2 ∙ r.source_there in
       let long : 1048576 < length r.source = subst (λ o. IsSomeAnd o (λ bytes. 1048576 < length bytes)) there (fails.told r.tells).long in
       let short = source_short r.main r.source document r.has in
       omega (arith, long, short)
-  read_long document r script out main name are (At_script source mid first is fails) =
+  read_long document events r script out main name are (At_script source mid first is fails) =
       let same = same_words words script out main r.script r.out r.main are r.are in
       let there : mid.bytes_of script ≡ Some r.commands = (first.1.told r.tells).tried.only.bytes script ∙ ap old.bytes_of same.0 ∙ r.script_there in
       let long : 1048576 < length r.commands = subst (λ o. IsSomeAnd o (λ bytes. 1048576 < length bytes)) there (fails.told (first.1.tells ∙ r.tells)).long in
@@ -118,97 +142,104 @@ module _ (words : List (List ℕ)) (old new : FilesState) where
       omega (arith, long, fits)
 
   -- the source is built
-  not_refused : (document : Document) (r : IsRunnable words old document) (script out main source commands : List ℕ) → AreWords words script out main
+  not_refused : (document : Document) (events : List UserEvent) (r : IsRunnable words old document events) (script out main source commands : List ℕ) → AreWords words script out main
       → HasRead script main source commands old new → IsNotBuilt main source → ⊥
-  not_refused document r script out main source commands are h refused =
+  not_refused document events r script out main source commands are h refused =
       let same = same_words words script out main r.script r.out r.main are r.are in
       let there = source_there script main source commands old new h r.tells in
       let is : source ≡ r.source = some_is source r.source (sym there ∙ ap old.bytes_of same.2 ∙ r.source_there) in
       refused document (subst (λ m. HasDocument m source document) (sym same.2) (subst (λ s. HasDocument r.main s document) (sym is) r.has))
 
-  -- nothing is to be done of the script
-  no_commands : (document : Document) (r : IsRunnable words old document) (script out main source commands : List ℕ) (line : ℕ) → AreWords words script out main
-      → HasRead script main source commands old new → other_line commands ≡ Some line → ⊥
-  no_commands document r script out main source commands line are h other =
+  -- each line of the script is known
+  no_other_line : (document : Document) (events : List UserEvent) (r : IsRunnable words old document events) (script out main source commands : List ℕ) (line : ℕ)
+      → AreWords words script out main → HasRead script main source commands old new → script_of commands ≡ Err line → ⊥
+  no_other_line document events r script out main source commands line are h other =
       let same = same_words words script out main r.script r.out r.main are r.are in
       let is : commands ≡ r.commands = some_is commands r.commands (sym (script_there script main source commands old new h r.tells) ∙ ap old.bytes_of same.0 ∙ r.script_there) in
-      let both : Some line ≡ None = sym other ∙ ap other_line is ∙ r.idle in
-      absurd (cc)
+      not_both events line (sym r.says ∙ ap script_of (sym is) ∙ other)
 
   -- the file was written
-  write_fails : (script out main : List ℕ) (document : Document) → HasWrittenFile script out main document (Err write.Failed) old new → NoFileFault old new → ⊥
-  write_fails script out main document h none =
+  write_fails : (script out main : List ℕ) (document : Document) (its : List UserEvent) → HasWrittenFile script out main document its (Err write.Failed) old new → NoFileFault old new → ⊥
+  write_fails script out main document its h none =
       none.writes (subst (λ n. Rose n new.write_faults) (counts_read script main h.built.source h.built.commands old h.mid h.built.read).writes h.written.counts.writes)
 
   module _ (before after : SinkState) where
     -- the text of the file's trace, all of which was printed, is that of the source's, and so is its outcome
-    same_story : (bytes : List ℕ) (built : Document) (outcome : Outcome) → PlaysAs bytes built → (played : HasPlayed bytes (turns words) outcome before after)
-        → played.story ≡ source_trace built [] (turns words)
-    same_story bytes built outcome plays played = plays.only [] (turns words) played.story (source_trace built [] (turns words)) played.trace (plays.same [] (turns words))
+    same_story : (bytes : List ℕ) (built : Document) (its : List UserEvent) (outcome : Outcome) → PlaysAs bytes built → (played : HasPlayed bytes its (turns words) outcome before after)
+        → played.story ≡ source_trace built its (turns words)
+    same_story bytes built its outcome plays played = plays.only its (turns words) played.story (source_trace built its (turns words)) played.trace (plays.same its (turns words))
 
-    same_outcome : (bytes : List ℕ) (built : Document) (outcome : Outcome) → PlaysAs bytes built → HasPlayed bytes (turns words) outcome before after
-        → (source_trace built [] (turns words)).outcome ≡ outcome
-    same_outcome bytes built outcome plays played = sym (ap (λ (s : Story). s.outcome) (same_story bytes built outcome plays played)) ∙ played.is
+    pub same_outcome : (bytes : List ℕ) (built : Document) (its : List UserEvent) (outcome : Outcome) → PlaysAs bytes built → HasPlayed bytes its (turns words) outcome before after
+        → (source_trace built its (turns words)).outcome ≡ outcome
+    same_outcome bytes built its outcome plays played = sym (ap (λ (s : Story). s.outcome) (same_story bytes built its outcome plays played)) ∙ played.is
+
+    -- what was built and played is what can be run
+    same_trace : (document : Document) (events : List UserEvent) (r : IsRunnable words old document events) (script out main : List ℕ) → AreWords words script out main → (mid : FilesState)
+        (built : Document) (its : List UserEvent) → HasBuilt script main built its old mid → source_trace built its (turns words) ≡ source_trace document events (turns words)
+    same_trace document events r script out main are mid built its h =
+        ap (λ d. source_trace d its (turns words)) (same_document document events r script out main are mid built its h)
+        ∙ ap (λ e. source_trace document e (turns words)) (same_events document events r script out main are mid built its h)
 
     pub runs_whole : (answer : Status) → Course words old new before after answer → RunsWhole words old new before after answer
-    runs_whole answer (No_command missing files says) document r none quiet = absurd (missing r.script r.out r.main r.are)
-    runs_whole answer (Cannot_read script out main name are fails says) document r none quiet = absurd (read_fails script out main name are fails none)
-    runs_whole answer (Too_long script out main name are fails says) document r none quiet = absurd (read_long document r script out main name are fails)
-    runs_whole answer (Not_built script out main source commands are has_read refused says) document r none quiet =
-        absurd (not_refused document r script out main source commands are has_read refused)
-    runs_whole answer (Bad_script script out main source commands built number are has_read has other says) document r none quiet =
-        absurd (no_commands document r script out main source commands number are has_read other)
-    runs_whole answer (Cannot_write script out main built are written says) document r none quiet = absurd (write_fails script out main built written none)
-    runs_whole answer (Cannot_print script out main built are written plays is) document r none quiet = absurd (quiet plays.faults)
-    runs_whole answer (No_memory without is) document r none quiet = inr is
-    runs_whole answer (Has_played script out main built outcome are written plays is comes) document r none quiet =
-        let same = same_document document r script out main are written.mid built written.built in
-        inl (is ∙ ap outcome_status (sym (same_outcome written.bytes built outcome written.plays plays) ∙ ap (λ d. (source_trace d [] (turns words)).outcome) same))
+    runs_whole answer (No_command missing files says) document events r none quiet = absurd (missing r.script r.out r.main r.are)
+    runs_whole answer (Cannot_read script out main name are fails says) document events r none quiet = absurd (read_fails script out main name are fails none)
+    runs_whole answer (Too_long script out main name are fails says) document events r none quiet = absurd (read_long document events r script out main name are fails)
+    runs_whole answer (Not_built script out main source commands are has_read refused says) document events r none quiet =
+        absurd (not_refused document events r script out main source commands are has_read refused)
+    runs_whole answer (Bad_script script out main source commands built number are has_read has other says) document events r none quiet =
+        absurd (no_other_line document events r script out main source commands number are has_read other)
+    runs_whole answer (Cannot_write script out main built its are written says) document events r none quiet = absurd (write_fails script out main built its written none)
+    runs_whole answer (Cannot_print script out main built its are written plays is) document events r none quiet = absurd (quiet plays.faults)
+    runs_whole answer (No_memory without is) document events r none quiet = inr is
+    runs_whole answer (Has_played script out main built its outcome are written plays is comes) document events r none quiet =
+        let same = same_trace document events r script out main are written.mid built its written.built in
+        inl (is ∙ ap outcome_status (sym (same_outcome written.bytes built its outcome written.plays plays) ∙ ap (λ (s : Story). s.outcome) same))
 
     -- nothing was printed
     nothing_taken : (bytes : List ℕ) → after ≡ before → HasTaken bytes before after
     nothing_taken bytes same = record { part = []; left = bytes; whole = refl; taken = ap (λ s. s.taken) same ∙ sym (append-nil before.taken) }
 
     -- what was printed of the file's trace was printed of the source's
-    part_taken : (document : Document) (r : IsRunnable words old document) (script out main : List ℕ) (built : Document) → AreWords words script out main
-        → (written : HasWrittenFile script out main built (Ok tt) old new) → ((story : Story) → HasTrace written.bytes [] (turns words) story → HasTaken (text story) before after)
-        → HasTaken (text (source_trace document [] (turns words))) before after
-    part_taken document r script out main built are written part =
-        subst (λ d. HasTaken (text (source_trace d [] (turns words))) before after) (same_document document r script out main are written.mid built written.built)
-        (part (source_trace built [] (turns words)) (written.plays.same [] (turns words)))
+    part_taken : (document : Document) (events : List UserEvent) (r : IsRunnable words old document events) (script out main : List ℕ) (built : Document) (its : List UserEvent)
+        → AreWords words script out main → (written : HasWrittenFile script out main built its (Ok tt) old new)
+        → ((story : Story) → HasTrace written.bytes its (turns words) story → HasTaken (text story) before after) → HasTaken (text (source_trace document events (turns words))) before after
+    part_taken document events r script out main built its are written part =
+        subst (λ (s : Story). HasTaken (text s) before after) (same_trace document events r script out main are written.mid built its written.built)
+        (part (source_trace built its (turns words)) (written.plays.same its (turns words)))
 
-    memory_part : (document : Document) → IsRunnable words old document → HasNoMemory words old new before after → IsTrue before.tells → HasTaken (text (source_trace document [] (turns words))) before after
-    memory_part document r (Early script out main are files sink) t = nothing_taken (text (source_trace document [] (turns words))) sink
-    memory_part document r (Writing script out main built are written sink) t = nothing_taken (text (source_trace document [] (turns words))) sink
-    memory_part document r (Playing script out main built are written plays) t = part_taken document r script out main built are written (plays.told t)
+    memory_part : (document : Document) (events : List UserEvent) → IsRunnable words old document events → HasNoMemory words old new before after → IsTrue before.tells
+        → HasTaken (text (source_trace document events (turns words))) before after
+    memory_part document events r (Early script out main are files sink) t = nothing_taken (text (source_trace document events (turns words))) sink
+    memory_part document events r (Writing script out main built its are written sink) t = nothing_taken (text (source_trace document events (turns words))) sink
+    memory_part document events r (Playing script out main built its are written plays) t = part_taken document events r script out main built its are written (plays.told t)
 
     -- and all of it was printed
-    all_printed : (bytes : List ℕ) (built : Document) (outcome : Outcome) → PlaysAs bytes built → HasPlayed bytes (turns words) outcome before after
-        → SinkChanges before after (after.write_faults ≡ before.write_faults) (after.taken ≡ before.taken ++ text (source_trace built [] (turns words)))
-    all_printed bytes built outcome plays played =
-        subst (λ (s : Story). SinkChanges before after (after.write_faults ≡ before.write_faults) (after.taken ≡ before.taken ++ text s)) (same_story bytes built outcome plays played)
+    all_printed : (bytes : List ℕ) (built : Document) (its : List UserEvent) (outcome : Outcome) → PlaysAs bytes built → HasPlayed bytes its (turns words) outcome before after
+        → SinkChanges before after (after.write_faults ≡ before.write_faults) (after.taken ≡ before.taken ++ text (source_trace built its (turns words)))
+    all_printed bytes built its outcome plays played =
+        subst (λ (s : Story). SinkChanges before after (after.write_faults ≡ before.write_faults) (after.taken ≡ before.taken ++ text s)) (same_story bytes built its outcome plays played)
         played.printed
 
     pub runs_in_part : (answer : Status) → Course words old new before after answer → RunsInPart words old new before after
-    runs_in_part answer (No_command missing files says) document r none t = absurd (missing r.script r.out r.main r.are)
-    runs_in_part answer (Cannot_read script out main name are fails says) document r none t = absurd (read_fails script out main name are fails none)
-    runs_in_part answer (Too_long script out main name are fails says) document r none t = absurd (read_long document r script out main name are fails)
-    runs_in_part answer (Not_built script out main source commands are has_read refused says) document r none t =
-        absurd (not_refused document r script out main source commands are has_read refused)
-    runs_in_part answer (Bad_script script out main source commands built number are has_read has other says) document r none t =
-        absurd (no_commands document r script out main source commands number are has_read other)
-    runs_in_part answer (Cannot_write script out main built are written says) document r none t = absurd (write_fails script out main built written none)
-    runs_in_part answer (Cannot_print script out main built are written plays is) document r none t = part_taken document r script out main built are written (plays.told t)
-    runs_in_part answer (No_memory without is) document r none t = memory_part document r without t
-    runs_in_part answer (Has_played script out main built outcome are written plays is comes) document r none t =
-        let all = (all_printed written.bytes built outcome written.plays plays).told t in
-        subst (λ d. HasTaken (text (source_trace d [] (turns words))) before after) (same_document document r script out main are written.mid built written.built)
-        (record { part = text (source_trace built [] (turns words)); left = []; whole = sym (append-nil (text (source_trace built [] (turns words)))); taken = all })
+    runs_in_part answer (No_command missing files says) document events r none t = absurd (missing r.script r.out r.main r.are)
+    runs_in_part answer (Cannot_read script out main name are fails says) document events r none t = absurd (read_fails script out main name are fails none)
+    runs_in_part answer (Too_long script out main name are fails says) document events r none t = absurd (read_long document events r script out main name are fails)
+    runs_in_part answer (Not_built script out main source commands are has_read refused says) document events r none t =
+        absurd (not_refused document events r script out main source commands are has_read refused)
+    runs_in_part answer (Bad_script script out main source commands built number are has_read has other says) document events r none t =
+        absurd (no_other_line document events r script out main source commands number are has_read other)
+    runs_in_part answer (Cannot_write script out main built its are written says) document events r none t = absurd (write_fails script out main built its written none)
+    runs_in_part answer (Cannot_print script out main built its are written plays is) document events r none t = part_taken document events r script out main built its are written (plays.told t)
+    runs_in_part answer (No_memory without is) document events r none t = memory_part document events r without t
+    runs_in_part answer (Has_played script out main built its outcome are written plays is comes) document events r none t =
+        let all = (all_printed written.bytes built its outcome written.plays plays).told t in
+        subst (λ (s : Story). HasTaken (text s) before after) (same_trace document events r script out main are written.mid built its written.built)
+        (record { part = text (source_trace built its (turns words)); left = []; whole = sym (append-nil (text (source_trace built its (turns words)))); taken = all })
 
     -- the files after all was written
-    all_written : (script out main : List ℕ) (built : Document) (h : HasWrittenFile script out main built (Ok tt) old new)
-        → Changes old new (SameCounts old new) (HoldsFile script out main h.built.source h.bytes old new)
-    all_written script out main built h =
+    all_written : (script out main : List ℕ) (built : Document) (its : List UserEvent) (h : HasWrittenFile script out main built its (Ok tt) old new)
+        → Changes old new (SameCounts old new) (HoldsFile script out main h.built.source h.bytes its old new)
+    all_written script out main built its h =
         let reading = h.built.read in
         let counts = counts_read script main h.built.source h.built.commands old h.mid reading in
         let tells : h.mid.tells ≡ old.tells = reading.second.1.tells ∙ reading.first.1.tells in
@@ -219,7 +250,7 @@ module _ (words : List (List ℕ)) (old new : FilesState) where
             source_there = source_there script main h.built.source h.built.commands old h.mid reading t;
             commands = h.built.commands;
             script_there = script_there script main h.built.source h.built.commands old h.mid reading t;
-            idle = h.built.idle;
+            says = h.built.says;
             written = (h.written.told (tells ∙ t)).there;
             others = λ name other.
                 (h.written.told (tells ∙ t)).others name other ∙ (reading.second.1.told (reading.first.1.tells ∙ t)).tried.only.bytes name ∙ (reading.first.1.told t).tried.only.bytes name;
@@ -238,16 +269,34 @@ module _ (words : List (List ℕ)) (old new : FilesState) where
     numbered : (n k : ℕ) (answer : Status) → n ≢ k → answer ≡ status n → answer ≡ status k → ⊥
     numbered n k answer a is e = a (ap (λ s. s.0) (sym is ∙ e))
 
-    -- the status of an end is that of the outcome
-    one_outcome : (outcome end : Outcome) (answer : Status) → IsEnd outcome → IsEnd end → answer ≡ outcome_status outcome → answer ≡ outcome_status end → outcome ≡ end
-    one_outcome outcome end answer (inl a) (inl b) is e = a ∙ sym b
-    one_outcome outcome end answer (inr a) (inr b) is e = a ∙ sym b
-    one_outcome outcome end answer (inl a) (inr b) is e =
-        let same : 0 ≡ 6 = ap (λ s. s.0) (ap outcome_status (sym a) ∙ sym is ∙ e ∙ ap outcome_status b) in absurd (omega (arith, same))
-    one_outcome outcome end answer (inr a) (inl b) is e =
-        let same : 6 ≡ 0 = ap (λ s. s.0) (ap outcome_status (sym a) ∙ sym is ∙ e ∙ ap outcome_status b) in absurd (omega (arith, same))
+    -- the outcome of which a play comes to its end with this status
+    abbrev code : Outcome → ℕ
+    code outcome = (outcome_status outcome).0
 
-    -- a status that no line of a failure gives
+    abbrev end_of : ℕ → Outcome
+    end_of zero = Ended
+    end_of (suc zero) = Stopped Cells
+    end_of (suc (suc n)) = TurnsSpent
+
+    end_is : (outcome : Outcome) → IsEnd outcome → end_of (code outcome) ≡ outcome
+    end_is outcome (inl e) = ap (λ o. end_of (code o)) e ∙ sym e
+    end_is outcome (inr (inl e)) = ap (λ o. end_of (code o)) e ∙ sym e
+    end_is outcome (inr (inr e)) = ap (λ o. end_of (code o)) e ∙ sym e
+
+    one_outcome : (outcome end : Outcome) (answer : Status) → IsEnd outcome → IsEnd end → answer ≡ outcome_status outcome → answer ≡ outcome_status end → outcome ≡ end
+    one_outcome outcome end answer comes ends is e = sym (end_is outcome comes) ∙ ap (λ (s : Status). end_of s.0) (sym is ∙ e) ∙ end_is end ends
+
+    -- the status of an end is none that the line of a failure gives
+    code_is : (outcome : Outcome) → IsEnd outcome → (code outcome ≡ 0) ⊎ ((code outcome ≡ 6) ⊎ (code outcome ≡ 1))
+    code_is outcome (inl e) = inl (ap code e)
+    code_is outcome (inr (inl e)) = inr (inl (ap code e))
+    code_is outcome (inr (inr e)) = inr (inr (ap code e))
+
+    apart : (k : ℕ) → (k ≡ 0) ⊎ ((k ≡ 6) ⊎ (k ≡ 1)) → (n : ℕ) → 1 < n → n ≢ 6 → n ≢ k
+    apart k (inl z) n most other s = omega (arith, most, z, s)
+    apart k (inr (inl z)) n most other s = other (s ∙ z)
+    apart k (inr (inr z)) n most other s = omega (arith, most, z, s)
+
     record IsFree (k : ℕ) : Type 0 where
       two : 2 ≢ k
       three : 3 ≢ k
@@ -257,44 +306,44 @@ module _ (words : List (List ℕ)) (old new : FilesState) where
       nine : 9 ≢ k
       ten : 10 ≢ k
 
-    has_printed : (k : ℕ) (end : Outcome) (answer : Status) → IsFree k → IsEnd end → outcome_status end ≡ status k → Course words old new before after answer → answer ≡ status k
-        → HasPrintedTrace words end old new before after
-    has_printed k end answer f ends of (No_command missing files says) e = absurd (said 2 k _ answer f.two f.eight f.nine says e)
-    has_printed k end answer f ends of (Cannot_read script out main name are fails says) e = absurd (said 7 k _ answer f.seven f.eight f.nine says e)
-    has_printed k end answer f ends of (Too_long script out main name are fails says) e = absurd (said 10 k _ answer f.ten f.eight f.nine says e)
-    has_printed k end answer f ends of (Not_built script out main source commands are has_read refused says) e = absurd (said 3 k _ answer f.three f.eight f.nine says e)
-    has_printed k end answer f ends of (Bad_script script out main source commands built number are has_read has other says) e = absurd (said 4 k _ answer f.four f.eight f.nine says e)
-    has_printed k end answer f ends of (Cannot_write script out main built are written says) e = absurd (said 8 k _ answer f.eight f.eight f.nine says e)
-    has_printed k end answer f ends of (Cannot_print script out main built are written plays is) e = absurd (numbered 8 k answer f.eight is e)
-    has_printed k end answer f ends of (No_memory without is) e = absurd (numbered 9 k answer f.nine is e)
-    has_printed k end answer f ends of (Has_played script out main built outcome are written plays is comes) e = record {
+    free_of : (end : Outcome) → IsEnd end → IsFree (code end)
+    free_of end ends =
+        let free : (n : ℕ) → 1 < n → n ≢ 6 → n ≢ code end = apart (code end) (code_is end ends) in
+        record {
+          two = free 2 (omega arith) (λ e. omega (arith, e));
+          three = free 3 (omega arith) (λ e. omega (arith, e));
+          four = free 4 (omega arith) (λ e. omega (arith, e));
+          seven = free 7 (omega arith) (λ e. omega (arith, e));
+          eight = free 8 (omega arith) (λ e. omega (arith, e));
+          nine = free 9 (omega arith) (λ e. omega (arith, e));
+          ten = free 10 (omega arith) (λ e. omega (arith, e));
+        }
+
+    -- the status of an outcome is that of a play that came to it
+    pub has_printed : (end : Outcome) → IsEnd end → (answer : Status) → Course words old new before after answer → answer ≡ outcome_status end → HasPrintedTrace words end old new before after
+    has_printed end ends answer (No_command missing files says) e = absurd (said 2 (code end) _ answer (free_of end ends).two (free_of end ends).eight (free_of end ends).nine says e)
+    has_printed end ends answer (Cannot_read script out main name are fails says) e = absurd (said 7 (code end) _ answer (free_of end ends).seven (free_of end ends).eight (free_of end ends).nine says e)
+    has_printed end ends answer (Too_long script out main name are fails says) e = absurd (said 10 (code end) _ answer (free_of end ends).ten (free_of end ends).eight (free_of end ends).nine says e)
+    has_printed end ends answer (Not_built script out main source commands are has_read refused says) e = absurd (said 3 (code end) _ answer (free_of end ends).three (free_of end ends).eight (free_of end ends).nine says e)
+    has_printed end ends answer (Bad_script script out main source commands built number are has_read has other says) e = absurd (said 4 (code end) _ answer (free_of end ends).four (free_of end ends).eight (free_of end ends).nine says e)
+    has_printed end ends answer (Cannot_write script out main built its are written says) e = absurd (said 8 (code end) _ answer (free_of end ends).eight (free_of end ends).eight (free_of end ends).nine says e)
+    has_printed end ends answer (Cannot_print script out main built its are written plays is) e = absurd (numbered 8 (code end) answer (free_of end ends).eight is e)
+    has_printed end ends answer (No_memory without is) e = absurd (numbered 9 (code end) answer (free_of end ends).nine is e)
+    has_printed end ends answer (Has_played script out main built its outcome are written plays is comes) e = record {
       script = script;
       out = out;
       main = main;
       source = written.built.source;
       bytes = written.bytes;
       document = built;
+      events = its;
       are = are;
       has = written.built.has;
       plays = written.plays;
-      files = all_written script out main built written;
-      printed = all_printed written.bytes built outcome written.plays plays;
-      comes_to = same_outcome written.bytes built outcome written.plays plays ∙ one_outcome outcome end answer comes ends is (e ∙ sym of);
+      files = all_written script out main built its written;
+      printed = all_printed written.bytes built its outcome written.plays plays;
+      comes_to = same_outcome written.bytes built its outcome written.plays plays ∙ one_outcome outcome end answer comes ends is e;
     }
-
-    -- the status 0 is that of a play that ended by itself
-    pub has_ended : (answer : Status) → Course words old new before after answer → answer ≡ status 0 → HasPrintedTrace words Ended old new before after
-    has_ended answer c e =
-        has_printed 0 Ended answer
-        (record { two = λ s. omega (arith, s); three = λ s. omega (arith, s); four = λ s. omega (arith, s); seven = λ s. omega (arith, s); eight = λ s. omega (arith, s); nine = λ s. omega (arith, s); ten = λ s. omega (arith, s) })
-        (inl refl) refl c e
-
-    -- and the status 6 that of one whose turns are spent
-    pub has_spent : (answer : Status) → Course words old new before after answer → answer ≡ status 6 → HasPrintedTrace words TurnsSpent old new before after
-    has_spent answer c e =
-        has_printed 6 TurnsSpent answer
-        (record { two = λ s. omega (arith, s); three = λ s. omega (arith, s); four = λ s. omega (arith, s); seven = λ s. omega (arith, s); eight = λ s. omega (arith, s); nine = λ s. omega (arith, s); ten = λ s. omega (arith, s) })
-        (inr refl) refl c e
 
 module _ (words : List (List ℕ)) (old new : FilesState) (before after : SinkState) (none : NoFileFault old new) (quiet : NoSinkFault before after) (tells : IsTrue old.tells) where
   -- a line that was to be printed was printed, or memory was refused
@@ -347,8 +396,8 @@ module _ (words : List (List ℕ)) (old new : FilesState) (before after : SinkSt
   refuses_rightly answer (No_command missing files says) meant line (For_source script out main source commands are both refused number same) = absurd (missing script out main are)
   refuses_rightly answer (No_command missing files says) meant line (For_script script out main source commands document which are both has other2 number same) = absurd (missing script out main are)
   refuses_rightly answer (Cannot_read script out main name are fails says) meant line why = absurd (read_fails words old new script out main name are fails none)
-  refuses_rightly answer (Cannot_write script out main built are written says) meant line why = absurd (write_fails words old new script out main built written none)
-  refuses_rightly answer (Cannot_print script out main built are written plays is) meant line why = absurd (quiet plays.faults)
+  refuses_rightly answer (Cannot_write script out main built its are written says) meant line why = absurd (write_fails words old new script out main built its written none)
+  refuses_rightly answer (Cannot_print script out main built its are written plays is) meant line why = absurd (quiet plays.faults)
   refuses_rightly answer (No_memory without is) meant line why = inr is
   refuses_rightly answer (Too_long script out main name are fails says) meant line why = by (too_long script out main name fails) why
     where
@@ -418,10 +467,10 @@ module _ (words : List (List ℕ)) (old new : FilesState) (before after : SinkSt
       by (For_script t p m s c document which are2 both has2 other2 number same) =
           let names = same_words words script out main t p m are are2 in
           let e = same_bytes script t commands c names.0 here.script_there both.script_there in
-          let firsts : Some first ≡ Some which = sym other ∙ ap other_line e ∙ other2 in
-          let lines : line ≡ script_line first = cc in
+          let firsts : first ≡ which = err_is first which (sym other ∙ ap script_of e ∙ other2) in
+          let lines : line ≡ script_line first = same ∙ ap script_line (sym firsts) in
           has_said meant 4 line (script_line first) answer says number lines
-  refuses_rightly answer (Has_played script out main built outcome are written plays is comes) meant line why = by why
+  refuses_rightly answer (Has_played script out main built its outcome are written plays is comes) meant line why = by why
     where
       here : HoldsBoth script main written.built.source written.built.commands old
       here = reading script main written.built.source written.built.commands written.mid written.built.read
@@ -443,11 +492,9 @@ module _ (words : List (List ℕ)) (old new : FilesState) (before after : SinkSt
       by (For_script t p m s c document which are2 both has other2 number same) =
           let names = same_words words script out main t p m are are2 in
           let e = same_bytes script t written.built.commands c names.0 here.script_there both.script_there in
-          let both_lines : None ≡ Some which = sym written.built.idle ∙ ap other_line e ∙ other2 in
-          absurd (cc)
+          absurd (not_both its which (sym written.built.says ∙ ap script_of e ∙ other2))
 
--- the play of a document that was built comes to its end, or its turns are spent
+-- how the play of a document that was built comes to its end
 pub run_ends : (words : List (List ℕ)) (outcome : Outcome) (old new : FilesState) (before after : SinkState) → HasRun words outcome old new before after → IsEnd outcome
 run_ends words outcome old new before after h =
-    let small = small_document h.main h.written.built.source h.document h.written.built.has in
-    subst IsEnd (same_outcome words old new before after h.written.bytes h.document outcome h.written.plays h.plays) (ends_so h.document (turns words) small.few)
+    subst IsEnd (same_outcome words old new before after h.written.bytes h.document h.events outcome h.written.plays h.plays) (ends_so h.document h.events (turns words))

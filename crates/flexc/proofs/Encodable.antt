@@ -1,10 +1,11 @@
 -- The operands of the emitted instructions fit their forms.
 use Rattle.std.proofs.Common.{ℕ, suc, ◌+◌, ◌<◌, ◌≤◌, List, [], ◌∷◌, ◌++◌, length, arith}
+use Rattle.std.specs.Prelude.{None, Some}
 use Rattle.flex_front.specs.declared.document.Element.{Element}
 use Rattle.flex_front.specs.declared.document.Element.TheVariants.{Label, Button}
 use Rattle.avm2_code.specs.declared.instruction.Instruction.{Instruction}
 use Rattle.avm2_code.specs.declared.instruction.Instruction.TheVariants.{ReturnVoid}
-use Rattle.flexc.specs.Emitted.{each_element, class_number, script_code, constructor_code, making_code, attribute_code, place_code, element_code, building_code}
+use Rattle.flexc.specs.Emitted.{each_element, class_number, script_code, constructor_code, making_code, attribute_code, place_code, element_code, building_code, handler_code}
 use Rattle.flexc.proofs.Decoded.{AreEncodable}
 
 encodable_append : (is js : List Instruction) → AreEncodable is → AreEncodable js → AreEncodable (is ++ js)
@@ -30,7 +31,8 @@ making_encodable k e lt = let c = class_number-low e in ((omega arith, tt), ((om
 
 attribute_encodable : (k : ℕ) (e : Element) → k < 100 → AreEncodable (attribute_code k e)
 attribute_encodable k (Label id text) lt = (tt, ((omega arith, tt), ((omega arith, tt), tt)))
-attribute_encodable k (Button id click) lt = tt
+attribute_encodable k (Button id None) lt = tt
+attribute_encodable k (Button id (Some text)) lt = (tt, ((omega arith, tt), (tt, ((omega arith, tt), ((omega arith, (omega arith, tt)), tt)))))
 
 place_encodable : (k : ℕ) → k < 100 → AreEncodable (place_code k)
 place_encodable k lt = (tt, (tt, (tt, ((omega arith, tt), ((omega arith, (omega arith, tt)), tt)))))
@@ -47,3 +49,7 @@ elements_encodable k (e ∷ es) le =
 
 pub building_encodable : (es : List Element) → length es ≤ 100 → AreEncodable (building_code es)
 building_encodable es few = encodable_append (each_element element_code 0 es) (ReturnVoid ∷ []) (elements_encodable 0 es (omega arith)) return_encodable
+
+-- the code of a handler
+pub handler_encodable : (k : ℕ) → k < 100 → AreEncodable (handler_code k)
+handler_encodable k lt = ((omega arith, tt), ((omega arith, tt), ((omega arith, (omega arith, tt)), (tt, tt))))

@@ -1,11 +1,13 @@
--- The play of a small document comes to its end, where there are turns for its two activities.
-use Rattle.std.proofs.Common.{◌≡◌, ℕ, zero, suc, ◌+◌, ◌*◌, ◌<◌, ◌≤◌, List, [], ◌∷◌, length, Option, None, Some, Bool, true, false, inl, inr, refl, sym, ap, subst, arith}
-use Rattle.std.specs.Prelude.{if◌then◌else◌, map, nat_lt, codes}
-use Rattle.std.proofs.lemmas.Bool.{lt-ltb, le-ltb}
+-- How the play of a document comes to its end.
+use Rattle.std.proofs.Common.{◌≡◌, ◌≢◌, ℕ, zero, suc, ◌+◌, ◌<◌, List, [], ◌∷◌, Option, None, Some, Bool, true, false, inl, inr, refl, ap, ◌∙◌, sym, subst, arith}
+use Rattle.std.specs.Prelude.{if◌then◌else◌, nat_lt, ◌⊎◌, codes}
+use Rattle.std.proofs.lemmas.Bool.{lt-ltb}
 use Rattle.flex_base.specs.Value.{same}
-use Rattle.flex_base.specs.declared.outcome.Outcome.TheVariants.{Ended, Stopped}
+use Rattle.flex_base.specs.declared.outcome.MachineFault.{MachineFault}
+use Rattle.flex_base.specs.declared.outcome.Outcome.{Outcome}
+use Rattle.flex_base.specs.declared.outcome.Outcome.TheVariants.{Stopped, TurnsSpent, Fault}
 use Rattle.flex_base.specs.declared.outcome.Stop.TheVariants.{Depth, Cells}
-use Rattle.flex_base.specs.declared.record.TraceItem.TheVariants.{Made, Written, Added}
+use Rattle.flex_base.specs.declared.record.TraceItem.TheVariants.{Made, Written, Sent, Heard, User, Missed}
 use Rattle.flex_base.specs.declared.value.ObjId.{ObjId}
 use Rattle.flex_base.specs.declared.value.Value.{Value}
 use Rattle.flex_base.specs.declared.value.Value.TheVariants as value
@@ -13,119 +15,125 @@ use Rattle.flex_front.specs.declared.document.Element.{Element}
 use Rattle.flex_front.specs.declared.document.Element.TheVariants as element
 use Rattle.flex_front.specs.declared.document.Document.{Document}
 use Rattle.flex_front.specs.Source.{id_of}
+use Rattle.avm2_machine.specs.declared.dispatch.Arrival.{Arrival}
+use Rattle.avm2_machine.specs.declared.event.UserEvent.{UserEvent}
+use Rattle.avm2_machine.specs.declared.event.UserEvent.TheVariants as event
+use Rattle.avm2_machine.specs.Events.{arrivals, hearing, phase_number, click}
 use Rattle.flexc.specs.Command.{IsEnd}
-use Rattle.flexc.specs.Meaning.{id_property, do_all, apply, build_element, build_all, construct, play, told, source_trace}
-use Rattle.flexc.specs.World.{Kind, Main, Property, World, Result, Goes, Halts, bind, empty_world, spend, enter, leave, activity, make, next_number, note, with_component, component, property_in, write_over, stored, child_count, with_child}
+use Rattle.flexc.specs.Meaning.{next_handler, handler, apply, build_element, build_all, construct, handle, hear, hear_all, visit, reached, clicks, does, do_all, play, told, source_trace}
+use Rattle.flexc.specs.World.{Kind, Click, Property, Listener, World, Result, Goes, Halts, bind, note, empty_world, spend, enter, leave, activity, take, make, next_number, new_component, with_component, component, property_in, with_listener, stored, write_over, outer, listeners}
 
-abbrev GoesWith : {A : Type 0} → (A → World → Type 0) → Result A → Type 0
-GoesWith P (Goes v w) = P v w
-GoesWith P (Halts o w) = ⊥
+-- goes on with so many activities open, or halts because the turns are spent or the cells don't hold out
+abbrev EndsTamely : {A : Type 0} → ℕ → Result A → Type 0
+EndsTamely l (Goes v w) = w.level ≡ l
+EndsTamely l (Halts o w) = (o ≡ TurnsSpent) ⊎ (o ≡ Stopped Cells)
 
--- goes on, with such a value and world
-record GoesOn {A : Type 0} (P : A → World → Type 0) (r : Result A) : Type 0 where
-  on : GoesWith P r
+record IsTame {A : Type 0} (l : ℕ) (r : Result A) : Type 0 where
+  end : EndsTamely l r
 
-goes : {A : Type 0} (P : A → World → Type 0) (v : A) (w : World) → P v w → GoesOn P (Goes v w)
-goes P v w p = record { on = p }
+goes_tamely : {A : Type 0} (l : ℕ) (v : A) (w : World) → w.level ≡ l → IsTame l (Goes v w)
+goes_tamely l v w is = record { end = is }
 
-on_then : {A B : Type 0} (P : A → World → Type 0) (Q : B → World → Type 0) (r : Result A) (f : A → World → Result B) → GoesOn P r → ((v : A) (w : World) → P v w → GoesOn Q (f v w)) → GoesOn Q (bind r f)
-on_then P Q (Goes v w) f g each = each v w g.on
-on_then P Q (Halts o w) f g each = absurd g.on
+bind_tamely : {A B : Type 0} (l m : ℕ) (r : Result A) (f : A → World → Result B) → IsTame l r → ((v : A) (w : World) → w.level ≡ l → IsTame m (f v w)) → IsTame m (bind r f)
+bind_tamely l m (Goes v w) f tame each = each v w tame.end
+bind_tamely l m (Halts o w) f tame each = record { end = tame.end }
 
--- at most so many cells are taken, and so many activities are open and turns left
-record Has (cells level turns : ℕ) (w : World) : Type 0 where
-  cells_are : w.cells ≤ cells
-  level_is : w.level ≡ level
-  turns_are : w.turns ≡ turns
-
-written_has : (c l t : ℕ) (o : ObjId) (name : List ℕ) (p : Option Property) (v : Value) (w : World) → Has c l t w → Has c l t (write_over o name p v w)
-written_has c l t o name None v w h = h
-written_has c l t o name (Some p) v w h = by (same p.value v)
+take_tamely : (l : ℕ) (kind : Kind) (properties : List Property) (declared : ℕ) (w : World) → w.level ≡ l → IsTame l (take kind properties declared w)
+take_tamely l kind properties declared w is = by (nat_lt 1000000 (w.cells + (16 + declared)))
   where
-    by : (b : Bool) → Has c l t (if b then w else note (Written o name v) (stored o name v w))
-    by true = h
-    by false = record { cells_are = h.cells_are; level_is = h.level_is; turns_are = h.turns_are }
+    by : (t : Bool) → IsTame l (if t then Halts (Stopped Cells) w else Goes (next_number w) (with_component (new_component kind properties) (16 + declared) w))
+    by true = record { end = inr refl }
+    by false = record { end = is }
 
-make_goes : (c l t : ℕ) (kind : Kind) (class : List ℕ) (properties : List Property) (declared : ℕ) (w : World) → c + (16 + declared) ≤ 1000000 → Has c l t w
-    → GoesOn (λ _ w1. Has (c + (16 + declared)) l t w1) (make kind class properties declared w)
-make_goes c l t kind class properties declared w fits h =
-    let cells = h.cells_are in
-    let enough : nat_lt 1000000 (w.cells + (16 + declared)) ≡ false = le-ltb 1000000 (w.cells + (16 + declared)) (omega arith) in
-    let new = note (Made (next_number w) class) (with_component (record { kind = kind; properties = properties; children = [] }) (16 + declared) w) in
-    subst (λ b. GoesOn (λ _ w1. Has (c + (16 + declared)) l t w1) (if b then Halts (Stopped Cells) w else Goes (next_number w) new)) (sym enough)
-    (goes (λ _ w1. Has (c + (16 + declared)) l t w1) (next_number w) new (record { cells_are = omega arith; level_is = h.level_is; turns_are = h.turns_are }))
+make_tamely : (l : ℕ) (kind : Kind) (class : List ℕ) (properties : List Property) (declared : ℕ) (w : World) → w.level ≡ l → IsTame l (make kind class properties declared w)
+make_tamely l kind class properties declared w is =
+    bind_tamely l l _ _ (take_tamely l kind properties declared w is) (λ o w1 is1. goes_tamely l o (note (Made o class) w1) is1)
 
-enter_goes : (c l t : ℕ) (w : World) → l < 256 → Has c l (suc t) w → GoesOn (λ _ w1. Has c (l + 1) t w1) (enter w)
-enter_goes c l t w low h =
-    let level = h.level_is in
-    let fits : nat_lt w.level 256 ≡ true = lt-ltb w.level 256 (omega arith) in
-    subst (λ b. GoesOn (λ _ w1. Has c (l + 1) t w1) (if b then spend w.turns w else Halts (Stopped Depth) w)) (sym fits)
-    (subst (λ n. GoesOn (λ _ w1. Has c (l + 1) t w1) (spend n w)) (sym h.turns_are)
-    (goes (λ _ w1. Has c (l + 1) t w1) tt (record w { level = w.level + 1; turns = t }) (record { cells_are = h.cells_are; level_is = ap (λ n. n + 1) h.level_is; turns_are = refl })))
-
-activity_goes : (c d l t u : ℕ) (f : World → Result (Unit {0})) (w : World) → l < 256 → Has c l (suc t) w
-    → ((w1 : World) → Has c (l + 1) t w1 → GoesOn (λ _ w2. Has d (l + 1) u w2) (f w1)) → GoesOn (λ _ w1. Has d l u w1) (activity f w)
-activity_goes c d l t u f w low h each =
-    on_then (λ _ w1. Has c (l + 1) t w1) (λ _ w1. Has d l u w1) (enter w) (λ _ w1. bind (f w1) (λ _ w2. Goes tt (leave w2))) (enter_goes c l t w low h)
-    (λ _ w1 h1. on_then (λ _ w2. Has d (l + 1) u w2) (λ _ w2. Has d l u w2) (f w1) (λ _ w2. Goes tt (leave w2)) (each w1 h1)
-    (λ _ w2 h2. let level = h2.level_is in goes (λ _ w3. Has d l u w3) tt (leave w2) (record { cells_are = h2.cells_are; level_is = omega arith; turns_are = h2.turns_are })))
-
-apply_goes : (c l t : ℕ) (o : ObjId) (e : Element) (w : World) → Has c l t w → GoesOn (λ _ w1. Has c l t w1) (apply o e w)
-apply_goes c l t o (element.Label id text) w h =
-    goes (λ _ w1. Has c l t w1) tt (write_over o (codes "text") (property_in (codes "text") (component w o)) (value.Text text) w)
-    (written_has c l t o (codes "text") (property_in (codes "text") (component w o)) (value.Text text) w h)
-apply_goes c l t o (element.Button id click) w h = goes (λ _ w1. Has c l t w1) tt w h
-
-all_go : (c l t : ℕ) (document : ObjId) (es : List Element) (w : World) → c + 16 * length es ≤ 1000000 → Has c l t w
-    → GoesOn (λ _ w1. Has (c + 16 * length es) l t w1) (build_all document es w)
-all_go c l t document [] w fits h =
-    let cells = h.cells_are in
-    goes (λ _ w1. Has (c + 0) l t w1) tt w (record { cells_are = omega arith; level_is = h.level_is; turns_are = h.turns_are })
-all_go c l t document (x ∷ es) w fits h =
-    let e : (c + (16 + 0)) + 16 * length es ≡ c + 16 * length (x ∷ es) = omega arith in
-    on_then (λ _ w1. Has (c + (16 + 0)) l t w1) (λ _ w1. Has (c + 16 * length (x ∷ es)) l t w1) (build_element document x w) (λ _ w1. build_all document es w1)
-    (on_then (λ _ w1. Has (c + (16 + 0)) l t w1) (λ _ w1. Has (c + (16 + 0)) l t w1) _ _ (make_goes c l t _ _ _ 0 w (omega arith) h)
-    (λ o w1 h1.
-    let w2 = write_over document (id_of x) (property_in (id_of x) (component w1 document)) (value.Ref o) w1 in
-    let h2 = written_has (c + (16 + 0)) l t document (id_of x) (property_in (id_of x) (component w1 document)) (value.Ref o) w1 h1 in
-    on_then (λ _ w3. Has (c + (16 + 0)) l t w3) (λ _ w4. Has (c + (16 + 0)) l t w4) (apply o x w2) _ (apply_goes (c + (16 + 0)) l t o x w2 h2)
-    (λ _ w3 h3. goes (λ _ w4. Has (c + (16 + 0)) l t w4) o (note (Added document o (child_count (component w3 document))) (with_child document o w3))
-    (record { cells_are = h3.cells_are; level_is = h3.level_is; turns_are = h3.turns_are }))))
-    (λ o w1 h1. subst (λ n. GoesOn (λ _ w2. Has n l t w2) (build_all document es w1)) e (all_go (c + (16 + 0)) l t document es w1 (omega arith) h1))
-
-play_goes : (d : Document) (turns : ℕ) → length d.elements ≤ 100 → GoesOn (λ _ w. Unit {0}) (play d [] (empty_world (suc (suc turns))))
-play_goes d turns few =
-    let cells = 0 + (16 + length d.elements) in
-    let all = cells + 16 * length d.elements in
-    on_then (λ _ w. Has cells 0 (suc (suc turns)) w) (λ _ w. Unit {0}) _ (λ document w1. bind (construct document d.elements w1) (λ _ w2. Goes tt w2))
-    (make_goes 0 0 (suc (suc turns)) _ _ _ (length d.elements) (empty_world (suc (suc turns))) (omega arith) (record { cells_are = omega arith; level_is = refl; turns_are = refl }))
-    (λ document w1 h1. on_then (λ _ w. Has all 0 turns w) (λ _ w. Unit {0}) (construct document d.elements w1) (λ _ w2. Goes tt w2)
-    (activity_goes cells all 0 (suc turns) turns (activity (build_all document d.elements)) w1 (omega arith) h1
-    (λ w2 h2. activity_goes cells all (0 + 1) turns turns (build_all document d.elements) w2 (omega arith) h2
-    (λ w3 h3. all_go cells ((0 + 1) + 1) turns document d.elements w3 (omega arith) h3)))
-    (λ _ w2 h2. goes (λ _ w. Unit {0}) tt w2 tt))
-
--- a small document is built, and its play comes to its end
-ends_well : (d : Document) (turns : ℕ) → length d.elements ≤ 100 → (source_trace d [] (suc (suc turns))).outcome ≡ Ended
-ends_well d turns few = by (play d [] (empty_world (suc (suc turns)))) (play_goes d turns few)
+enter_tamely : (l : ℕ) (w : World) → l < 256 → w.level ≡ l → IsTame (l + 1) (enter w)
+enter_tamely l w low is =
+    let below : nat_lt w.level 256 ≡ true = lt-ltb w.level 256 (omega arith) in
+    subst (λ t. IsTame (l + 1) (if t then spend w.turns w else Halts (Stopped Depth) w)) (sym below) (by w.turns)
   where
-    by : (r : Result (Unit {0})) → GoesOn (λ _ w. Unit {0}) r → (told r).outcome ≡ Ended
-    by (Goes v w) g = refl
-    by (Halts o w) g = absurd g.on
+    by : (turns : ℕ) → IsTame (l + 1) (spend turns w)
+    by zero = record { end = inl refl }
+    by (suc turns) = record { end = ap (λ n. n + 1) is }
 
--- the main object of a small document is made
-main_made : (d : Document) (turns : ℕ) → length d.elements ≤ 100
-    → (f : ObjId → World → Result (Unit {0}))
-    → bind (make Main (codes "Main") (map id_property d.elements) (length d.elements) (empty_world turns)) f
-    ≡ f (next_number (empty_world turns)) (note (Made (next_number (empty_world turns)) (codes "Main")) (with_component (record { kind = Main; properties = map id_property d.elements; children = [] }) (16 + length d.elements) (empty_world turns)))
-main_made d turns few f =
-    let enough : nat_lt 1000000 (0 + (16 + length d.elements)) ≡ false = le-ltb 1000000 (0 + (16 + length d.elements)) (omega arith) in
-    ap (λ t. bind (if t then Halts (Stopped Cells) (empty_world turns)
-    else Goes (next_number (empty_world turns))
-    (note (Made (next_number (empty_world turns)) (codes "Main")) (with_component (record { kind = Main; properties = map id_property d.elements; children = [] }) (16 + length d.elements) (empty_world turns)))) f) enough
+activity_tamely : (l : ℕ) (f : World → Result (Unit {0})) (w : World) → l < 256 → w.level ≡ l → ((w1 : World) → w1.level ≡ l + 1 → IsTame (l + 1) (f w1)) → IsTame l (activity f w)
+activity_tamely l f w low is each =
+    bind_tamely (l + 1) l (enter w) (λ _ w1. bind (f w1) (λ _ w2. Goes tt (leave w2))) (enter_tamely l w low is)
+    (λ _ w1 is1. bind_tamely (l + 1) l (f w1) (λ _ w2. Goes tt (leave w2)) (each w1 is1) (λ _ w2 is2. goes_tamely l tt (leave w2) (omega (arith, is2))))
 
--- how the play of a small document comes to its end
-pub ends_so : (d : Document) (turns : ℕ) → length d.elements ≤ 100 → IsEnd (source_trace d [] turns).outcome
-ends_so d zero few = inr (ap (λ r. (told r).outcome) (main_made d 0 few (λ document w1. bind (construct document d.elements w1) (λ _ w2. do_all [] w2))))
-ends_so d (suc zero) few = inr (ap (λ r. (told r).outcome) (main_made d 1 few (λ document w1. bind (construct document d.elements w1) (λ _ w2. do_all [] w2))))
-ends_so d (suc (suc turns)) few = inl (ends_well d turns few)
+written_level : (o : ObjId) (name : List ℕ) (p : Option Property) (v : Value) (w : World) → (write_over o name p v w).level ≡ w.level
+written_level o name None v w = refl
+written_level o name (Some p) v w = by (same p.value v)
+  where
+    by : (t : Bool) → (if t then w else note (Written o name v) (stored o name v w)).level ≡ w.level
+    by true = refl
+    by false = refl
+
+apply_tamely : (l : ℕ) (document : ObjId) (number : ℕ) (o : ObjId) (e : Element) (w : World) → w.level ≡ l → IsTame l (apply document number o e w)
+apply_tamely l document number o (element.Label id text) w is =
+    goes_tamely l tt (write_over o (codes "text") (property_in (codes "text") (component w o)) (value.Text text) w)
+    (written_level o (codes "text") (property_in (codes "text") (component w o)) (value.Text text) w ∙ is)
+apply_tamely l document number o (element.Button id None) w is = goes_tamely l tt w is
+apply_tamely l document number o (element.Button id (Some text)) w is = goes_tamely l tt (with_listener o (handler document number text) w) is
+
+all_tamely : (l : ℕ) (document : ObjId) (number : ℕ) (es : List Element) (w : World) → w.level ≡ l → IsTame l (build_all document number es w)
+all_tamely l document number [] w is = goes_tamely l tt w is
+all_tamely l document number (e ∷ es) w is =
+    bind_tamely l l (build_element document number e w) (λ _ w1. build_all document (next_handler e number) es w1)
+    (bind_tamely l l _ _ (make_tamely l _ _ _ 0 w is)
+    (λ o w1 is1. bind_tamely l l _ _ (apply_tamely l document number o e (write_over document (id_of e) (property_in (id_of e) (component w1 document)) (value.Ref o) w1)
+    (written_level document (id_of e) (property_in (id_of e) (component w1 document)) (value.Ref o) w1 ∙ is1)) (λ _ w2 is2. goes_tamely l o _ is2)))
+    (λ _ w1 is1. all_tamely l document (next_handler e number) es w1 is1)
+
+hear_all_tamely : (a : Arrival) (ls : List Listener) (w : World) → w.level ≡ 0 → IsTame 0 (hear_all a ls w)
+hear_all_tamely a [] w is = goes_tamely 0 tt w is
+hear_all_tamely a (l ∷ ls) w is =
+    bind_tamely 0 0 (hear a l w) (λ _ w1. hear_all a ls w1)
+    (activity_tamely 0 (λ w1. handle l (note (Heard a.node click (phase_number a.phase)) w1)) w (omega arith) is (λ w1 is1. goes_tamely (0 + 1) tt _ is1))
+    (λ _ w1 is1. hear_all_tamely a ls w1 is1)
+
+visit_tamely : (nodes : List Arrival) (w : World) → w.level ≡ 0 → IsTame 0 (visit nodes w)
+visit_tamely [] w is = goes_tamely 0 tt w is
+visit_tamely (a ∷ nodes) w is =
+    bind_tamely 0 0 (hear_all a (hearing (λ l. l.event) click a.phase (listeners w a.node)) w) (λ _ w1. visit nodes w1)
+    (hear_all_tamely a (hearing (λ l. l.event) click a.phase (listeners w a.node)) w is) (λ _ w1 is1. visit_tamely nodes w1 is1)
+
+clicks_tamely : (name : List ℕ) (o : Option ObjId) (w : World) → w.level ≡ 0 → IsTame 0 (clicks name o w)
+clicks_tamely name None w is = goes_tamely 0 tt (note (Missed name) w) is
+clicks_tamely name (Some o) w is =
+    bind_tamely 0 0 _ _ (take_tamely 0 Click [] 0 w is) (λ e w1 is1. visit_tamely (arrivals o (outer w o)) (note (Sent o click) w1) is1)
+
+does_tamely : (document : ObjId) (e : UserEvent) (w : World) → w.level ≡ 0 → IsTame 0 (does document e w)
+does_tamely document (event.Click name line) w is = clicks_tamely name (reached w document name) (note (User line) w) is
+
+script_tamely : (document : ObjId) (events : List UserEvent) (w : World) → w.level ≡ 0 → IsTame 0 (do_all document events w)
+script_tamely document [] w is = goes_tamely 0 tt w is
+script_tamely document (e ∷ events) w is =
+    bind_tamely 0 0 (does document e w) (λ _ w1. do_all document events w1) (does_tamely document e w is) (λ _ w1 is1. script_tamely document events w1 is1)
+
+play_tamely : (d : Document) (events : List UserEvent) (w : World) → w.level ≡ 0 → IsTame 0 (play d events w)
+play_tamely d events w is =
+    bind_tamely 0 0 _ _ (make_tamely 0 _ _ _ _ w is)
+    (λ document w1 is1. bind_tamely 0 0 (construct document d.elements w1) (λ _ w2. do_all document events w2)
+    (activity_tamely 0 (activity (build_all document 0 d.elements)) w1 (omega arith) is1
+    (λ w2 is2. activity_tamely (0 + 1) (build_all document 0 d.elements) w2 (omega arith) is2 (λ w3 is3. all_tamely ((0 + 1) + 1) document 0 d.elements w3 is3)))
+    (λ _ w2 is2. script_tamely document events w2 is2))
+
+-- how the play of a document comes to its end
+pub ends_so : (d : Document) (events : List UserEvent) (turns : ℕ) → IsEnd (source_trace d events turns).outcome
+ends_so d events turns = by (play d events (empty_world turns)) (play_tamely d events (empty_world turns) refl)
+  where
+    by : (r : Result (Unit {0})) → IsTame 0 r → IsEnd (told r).outcome
+    by (Goes v w) tame = inl refl
+    by (Halts o w) tame = inr tame.end
+
+-- it meets no machine fault
+pub outcome_fairly : (d : Document) (events : List UserEvent) (turns : ℕ) (fault : MachineFault) → (source_trace d events turns).outcome ≢ Fault fault
+outcome_fairly d events turns fault is = by (source_trace d events turns).outcome is (ends_so d events turns)
+  where
+    by : (o : Outcome) → o ≡ Fault fault → IsEnd o → ⊥
+    by o e (inl ended) = cc
+    by o e (inr (inl spent)) = cc
+    by o e (inr (inr stopped)) = cc

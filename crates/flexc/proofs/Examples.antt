@@ -1,6 +1,6 @@
 -- What small documents mean, by computation.
 use Rattle.std.proofs.Common.{refl}
-use Rattle.flexc.specs.Examples.{GreetingMeans, EmptyTextMeans, OneTurnMeans, ButtonMeans}
+use Rattle.flexc.specs.Examples.{GreetingMeans, EmptyTextMeans, OneTurnMeans, ButtonMeans, ClickMeans, TwoTurnsMean, LabelClickMeans}
 
 pub greeting_means : GreetingMeans
 greeting_means = refl
@@ -13,3 +13,12 @@ one_turn_means = refl
 
 pub button_means : ButtonMeans
 button_means = refl
+
+pub click_means : ClickMeans
+click_means = refl
+
+pub two_turns_mean : TwoTurnsMean
+two_turns_mean = refl
+
+pub label_click_means : LabelClickMeans
+label_click_means = refl

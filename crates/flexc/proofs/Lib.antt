@@ -1,19 +1,19 @@
 pub mod Each
 pub mod Sizes
-pub mod Sources
 pub mod WrittenSize
 pub mod Written
 pub mod Built
 pub mod Decoded
 pub mod Encodable
+pub mod Clicks
 pub mod Comes
 pub mod States
 pub mod Sims
+pub mod Handlers
 pub mod Looked
 pub mod Runs
 pub mod PlainCode
 pub mod Plays
-pub mod Fair
 pub mod PlaysAs
 pub mod Says
 pub mod Courses
@@ -23,3 +23,4 @@ pub mod Lines
 pub mod Numbers
 pub mod CommandWords
 pub mod Examples
+pub mod GoingOn

@@ -1,14 +1,15 @@
 -- Bytes of which there are at most so many.
 use Rattle.std.proofs.Common.{◌≡◌, ℕ, zero, suc, ◌+◌, ◌*◌, ◌<◌, ◌≤◌, List, [], ◌∷◌, ◌++◌, length, refl, ap, arith, length-append}
-use Rattle.std.specs.Prelude.{All, ℤ}
+use Rattle.std.specs.Prelude.{None, Some, All, ℤ}
 use Rattle.std.specs.List.{flat_map}
 use Rattle.std.proofs.Math.Nat.{mul-suc, mul-le-mul_left}
-use Rattle.std.proofs.lemmas.List.Elements.{All-head, All-tail, All-nil, All-cons}
+use Rattle.std.proofs.lemmas.List.Elements.{All-head, All-tail, All-nil, All-cons, All-append}
 use Rattle.abc_format.specs.Numbers.{u30_bytes, int_bytes}
 use Rattle.abc_format.specs.Spelling.{counted, table, table_count}
 use Rattle.avm2_code.proofs.Sizes.{u30-length}
 use Rattle.flex_front.specs.declared.document.Element.{Element}
-use Rattle.flexc.specs.Emitted.{each_from, each_element}
+use Rattle.flex_front.specs.declared.document.Element.TheVariants.{Label, Button}
+use Rattle.flexc.specs.Emitted.{each_from, each_element, each_handler}
 
 -- bytes, so many at most
 pub record Within (most : ℕ) (bytes : List ℕ) : Type 0 where
@@ -72,15 +73,16 @@ each_from-within f most k zero each = record { within = omega arith }
 each_from-within f most k (suc n) each =
     loosen (each k ⊕ each_from-within f most (suc k) n each) (omega (arith, mul-suc most n))
 
--- one item for each number
-pub each_from-length : {A : Type 0} (f : ℕ → A) (k n : ℕ) → length (each_from (λ i. f i ∷ []) k n) ≡ n
-each_from-length f k zero = refl
-each_from-length f k (suc n) = ap suc (each_from-length f (suc k) n)
+-- so many items for each number
+pub each_from-length : {A : Type 0} (f : ℕ → List A) (size k n : ℕ) → ((i : ℕ) → length (f i) ≡ size) → length (each_from f k n) ≡ size * n
+each_from-length f size k zero sized = omega arith
+each_from-length f size k (suc n) sized =
+    omega (arith, length-append (f k) (each_from f (suc k) n), sized k, each_from-length f size (suc k) n sized, mul-suc size n)
 
--- what holds of the item of each number holds of them all
-pub each_from-all : {A : Type 0} (P : A → Type 0) (f : ℕ → A) (k n most : ℕ) → k + n ≤ most → ((i : ℕ) → i < most → P (f i)) → All P (each_from (λ i. f i ∷ []) k n)
+-- what holds of the items of each number holds of them all
+pub each_from-all : {A : Type 0} (P : A → Type 0) (f : ℕ → List A) (k n most : ℕ) → k + n ≤ most → ((i : ℕ) → i < most → All P (f i)) → All P (each_from f k n)
 each_from-all P f k zero most le each = All-nil P
-each_from-all P f k (suc n) most le each = All-cons P (f k) (each_from (λ i. f i ∷ []) (suc k) n) (each k (omega arith)) (each_from-all P f (suc k) n most (omega arith) each)
+each_from-all P f k (suc n) most le each = All-append P (f k) (each_from f (suc k) n) (each k (omega arith)) (each_from-all P f (suc k) n most (omega arith) each)
 
 -- one item for each element
 pub each_element-length : {A : Type 0} (f : ℕ → Element → A) (k : ℕ) (es : List Element) → length (each_element (λ i e. f i e ∷ []) k es) ≡ length es
@@ -100,3 +102,19 @@ pub each_element-all : {A : Type 0} (P : A → Type 0) (f : ℕ → Element → 
 each_element-all P f k most [] le each = All-nil P
 each_element-all P f k most (e ∷ es) le each =
     All-cons P (f k e) (each_element (λ i x. f i x ∷ []) (suc k) es) (each k e (omega arith)) (each_element-all P f (suc k) most es (omega arith) each)
+
+-- at most one item for each element
+pub each_handler-length : {A : Type 0} (f : ℕ → ℕ → A) (h k : ℕ) (es : List Element) → length (each_handler f h k es) ≤ length es
+each_handler-length f h k [] = omega arith
+each_handler-length f h k (Label id text ∷ es) = let le = each_handler-length f h (suc k) es in omega arith
+each_handler-length f h k (Button id None ∷ es) = let le = each_handler-length f h (suc k) es in omega arith
+each_handler-length f h k (Button id (Some text) ∷ es) = let le = each_handler-length f (suc h) (suc k) es in omega arith
+
+-- what holds of the item of each two numbers holds of them all
+pub each_handler-all : {A : Type 0} (P : A → Type 0) (f : ℕ → ℕ → A) (h k most : ℕ) (es : List Element) → h ≤ k → k + length es ≤ most
+    → ((i j : ℕ) → i < most → j < most → P (f i j)) → All P (each_handler f h k es)
+each_handler-all P f h k most [] low le each = All-nil P
+each_handler-all P f h k most (Label id text ∷ es) low le each = each_handler-all P f h (suc k) most es (omega arith) (omega arith) each
+each_handler-all P f h k most (Button id None ∷ es) low le each = each_handler-all P f h (suc k) most es (omega arith) (omega arith) each
+each_handler-all P f h k most (Button id (Some text) ∷ es) low le each =
+    All-cons P (f h k) (each_handler f (suc h) (suc k) es) (each h k (omega arith) (omega arith)) (each_handler-all P f (suc h) (suc k) most es (omega arith) (omega arith) each)

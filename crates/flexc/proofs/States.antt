@@ -1,29 +1,37 @@
 -- From the world of a source to the state of the machine, operation by operation.
-use Rattle.std.proofs.Common.{◌≡◌, ℕ, zero, suc, ◌+◌, List, [], ◌∷◌, ◌++◌, Option, None, Some, Bool, true, false, refl, sym, ap}
+use Rattle.std.proofs.Common.{◌≡◌, ℕ, zero, suc, ◌+◌, List, [], ◌∷◌, ◌++◌, length, Option, None, Some, Bool, true, false, refl, sym, ap, ◌∙◌}
 use Rattle.std.specs.Prelude.{map, option_map, if◌then◌else◌}
+use Rattle.std.specs.List.{filter, list_any}
 use Rattle.std.specs.Str.{bytes_eq}
 use Rattle.std.proofs.lemmas.List.{map-append, length-map}
 use Rattle.std.proofs.lemmas.Option.{slice_get-map}
-use Rattle.flex_base.specs.declared.outcome.Outcome.{Outcome}
 use Rattle.flex_base.specs.declared.value.ObjId.{ObjId}
 use Rattle.flex_base.specs.declared.value.Value.{Value}
-use Rattle.avm2_machine.specs.declared.frame.CodeFrame.{CodeFrame}
+use Rattle.avm2_machine.specs.declared.dispatch.Phase.{Phase}
+use Rattle.avm2_machine.specs.declared.dispatch.Phase.TheVariants.{Capture, Target, Bubble}
+use Rattle.avm2_machine.specs.declared.frame.Frame.{Frame}
 use Rattle.avm2_machine.specs.declared.machine.Load.TheVariants as load
 use Rattle.avm2_machine.specs.declared.machine.Machine.{Machine}
 use Rattle.avm2_machine.specs.declared.stage.Class.{Class}
 use Rattle.avm2_machine.specs.declared.stage.Class.TheVariants as class
 use Rattle.avm2_machine.specs.declared.stage.PropertyType.{PropertyType}
 use Rattle.avm2_machine.specs.declared.stage.PropertyType.TheVariants as type
+use Rattle.avm2_machine.specs.declared.stage.Registration.{Registration}
 use Rattle.avm2_machine.specs.declared.stage.Slot.{Slot}
 use Rattle.avm2_machine.specs.declared.stage.Object.{Object}
 use Rattle.avm2_machine.specs.declared.stage.Stage.{Stage}
-use Rattle.avm2_machine.specs.Stage.{object_at, slot_named, next_object, with_object, with_value as with_slot_value, changed_at as changed_object_at, with_property, with_child as with_stage_child}
+use Rattle.avm2_machine.specs.Events.{outward, ancestors, hearing}
+use Rattle.avm2_machine.specs.Machine.{ref_of, is_object, held as slot_held, shown as stage_shown, reached as stage_reached}
+use Rattle.avm2_machine.specs.Stage.{object_at, property, slot_of as stage_slot_of, slot_named, next_object, with_object, with_value as with_slot_value, changed_at as changed_object_at, with_property, with_last as with_stage_last, with_parent as with_stage_parent, with_child as with_stage_child, with_listener as with_stage_listener, parent as stage_parent, parent_of as stage_parent_of, outer as stage_outer, listeners as stage_listeners, listeners_of as stage_listeners_of}
 use Rattle.script_player.specs.Playing.{Config}
-use Rattle.flexc.specs.World.{Kind, Main, Native, Content, A_text, An_object, Property, Component, World, next_number, with_component, component, numbered, property_named, with_value, changed_at, stored, with_child}
+use Rattle.flexc.specs.Emitted.{handler_number}
+use Rattle.flexc.specs.Meaning.{held, shown, reached}
+use Rattle.flexc.specs.World.{Kind, Main, Native, Click, Content, A_text, An_object, Property, Listener, Component, World, new_component, next_number, with_component, component, numbered, property_named, property_in, with_value, changed_at, stored, with_last, with_parent, with_child, with_listener, parent, parent_of, outer, listeners, listeners_of}
 
 abbrev pub class_of : Kind → Class
 class_of Main = class.File 0
 class_of (Native c) = class.Native c
+class_of Click = class.MouseEvent
 
 -- the type of what a property holds
 abbrev pub type_of : Content → PropertyType
@@ -33,22 +41,37 @@ type_of (An_object c) = type.Instance (class.Native c)
 abbrev pub slot_of : Property → Slot
 slot_of p = record { name = p.name; kind = type_of p.content; value = p.value }
 
+-- a handler is a method of the document
+abbrev pub registration_of : Listener → Registration
+registration_of l = record { event = l.event; object = l.document; method = handler_number l.number }
+
 abbrev pub object_of : Component → Object
-object_of c = record { class = class_of c.kind; slots = map slot_of c.properties; children = c.children }
+object_of c =
+    record { class = class_of c.kind; slots = map slot_of c.properties; children = c.children; parent = c.parent; listeners = map registration_of c.listeners }
 
 abbrev pub stage_of : World → Stage
 stage_of w = record { objects = map object_of w.objects; cells = w.cells }
 
--- the machine with these frames in a world
-abbrev pub machine_of : List CodeFrame → Option Outcome → World → Machine
-machine_of frames outcome w =
-    record { frames = frames; load = load.Done; made = true ∷ []; stage = stage_of w; level = w.level; turns = w.turns; outcome = outcome }
+-- the document's number
+abbrev pub one : ObjId
+one = record { 0 = 1 }
 
-abbrev pub at : List CodeFrame → World → Config
-at frames w = record { machine = machine_of frames None w; records = w.records }
+-- the machine with these frames in a world, in which the document was made
+abbrev pub machine_of : List Frame → World → Machine
+machine_of frames w =
+    record {
+      frames = frames;
+      load = load.Done;
+      made = true ∷ [];
+      main = Some one;
+      stage = stage_of w;
+      level = w.level;
+      turns = w.turns;
+      outcome = None;
+    }
 
-abbrev pub ended_at : Outcome → World → Config
-ended_at o w = record { machine = machine_of [] (Some o) w; records = w.records }
+abbrev pub at : List Frame → World → Config
+at frames w = record { machine = machine_of frames w; records = w.records }
 
 pub next_number_is : (w : World) → next_object (stage_of w) ≡ next_number w
 next_number_is w = ap (λ n. record { 0 = suc n }) (length-map w.objects object_of)
@@ -60,9 +83,10 @@ object_is w o = by o.0
     by zero = refl
     by (suc n) = slice_get-map object_of w.objects n
 
-pub with_object_is : (c : Component) (declared : ℕ) (w : World) → with_object (class_of c.kind) (map slot_of c.properties) declared (stage_of w) ≡ stage_of (with_component (record { kind = c.kind; properties = c.properties; children = [] }) (16 + declared) w)
-with_object_is c declared w =
-    ap (λ os. record { objects = os; cells = w.cells + (16 + declared) }) (sym (map-append object_of w.objects (record { kind = c.kind; properties = c.properties; children = [] } ∷ [])))
+pub with_object_is : (kind : Kind) (properties : List Property) (declared : ℕ) (w : World)
+    → with_object (class_of kind) (map slot_of properties) declared (stage_of w) ≡ stage_of (with_component (new_component kind properties) (16 + declared) w)
+with_object_is kind properties declared w =
+    ap (λ os. record { objects = os; cells = w.cells + (16 + declared) }) (sym (map-append object_of w.objects (new_component kind properties ∷ [])))
 
 pub slot_is : (name : List ℕ) (ps : List Property) → slot_named name (map slot_of ps) ≡ option_map slot_of (property_named name ps)
 slot_is name [] = refl
@@ -90,10 +114,89 @@ stored_is zero name v w = refl
 stored_is (suc n) name v w =
     ap (λ os. record { objects = os; cells = w.cells })
     (changes_are (λ object. record object { slots = with_slot_value name v object.slots }) (λ c. record c { properties = with_value name v c.properties })
-    (λ c. ap (λ l. record { class = class_of c.kind; slots = l; children = c.children }) (values_are name v c.properties)) w.objects n)
+    (λ c. ap (λ l. record (object_of c) { slots = l }) (values_are name v c.properties)) w.objects n)
 
-pub with_child_is : (n : ℕ) (child : ObjId) (w : World) → with_stage_child (record { 0 = n }) child (stage_of w) ≡ stage_of (with_child (record { 0 = n }) child w)
-with_child_is zero child w = refl
-with_child_is (suc n) child w =
+with_last_is : (n : ℕ) (child : ObjId) (w : World) → with_stage_last (record { 0 = n }) child (stage_of w) ≡ stage_of (with_last (record { 0 = n }) child w)
+with_last_is zero child w = refl
+with_last_is (suc n) child w =
     ap (λ os. record { objects = os; cells = w.cells })
     (changes_are (λ object. record object { children = object.children ++ child ∷ [] }) (λ c. record c { children = c.children ++ child ∷ [] }) (λ c. refl) w.objects n)
+
+with_parent_is : (parent : ObjId) (n : ℕ) (w : World) → with_stage_parent parent (record { 0 = n }) (stage_of w) ≡ stage_of (with_parent parent (record { 0 = n }) w)
+with_parent_is parent zero w = refl
+with_parent_is parent (suc n) w =
+    ap (λ os. record { objects = os; cells = w.cells })
+    (changes_are (λ object. record object { parent = Some parent }) (λ c. record c { parent = Some parent }) (λ c. refl) w.objects n)
+
+pub with_child_is : (n : ℕ) (child : ObjId) (w : World) → with_stage_child (record { 0 = n }) child (stage_of w) ≡ stage_of (with_child (record { 0 = n }) child w)
+with_child_is n child w = ap (with_stage_parent (record { 0 = n }) child) (with_last_is n child w) ∙ with_parent_is (record { 0 = n }) child.0 (with_last (record { 0 = n }) child w)
+
+pub with_listener_is : (n : ℕ) (l : Listener) (w : World) → with_stage_listener (record { 0 = n }) (registration_of l) (stage_of w) ≡ stage_of (with_listener (record { 0 = n }) l w)
+with_listener_is zero l w = refl
+with_listener_is (suc n) l w =
+    ap (λ os. record { objects = os; cells = w.cells })
+    (changes_are (λ object. record object { listeners = object.listeners ++ registration_of l ∷ [] }) (λ c. record c { listeners = c.listeners ++ l ∷ [] })
+    (λ c. ap (λ ls. record (object_of c) { listeners = ls }) (sym (map-append registration_of c.listeners (l ∷ [])))) w.objects n)
+
+-- the property of an object
+pub property_is : (name : List ℕ) (w : World) (o : ObjId) → property (stage_of w) o name ≡ option_map slot_of (property_in name (component w o))
+property_is name w o = ap (stage_slot_of name) (object_is w o) ∙ by (component w o)
+  where
+    by : (c : Option Component) → stage_slot_of name (option_map object_of c) ≡ option_map slot_of (property_in name c)
+    by None = refl
+    by (Some c) = slot_is name c.properties
+
+-- parents, and so ancestors
+parents_are : (w : World) (o : ObjId) → stage_parent (stage_of w) o ≡ parent w o
+parents_are w o = ap stage_parent_of (object_is w o) ∙ by (component w o)
+  where
+    by : (c : Option Component) → stage_parent_of (option_map object_of c) ≡ parent_of c
+    by None = refl
+    by (Some c) = refl
+
+outward_alike : (p q : ObjId → Option ObjId) → ((o : ObjId) → p o ≡ q o) → (n : ℕ) (o : Option ObjId) → outward p n o ≡ outward q n o
+outward_alike p q e zero o = refl
+outward_alike p q e (suc n) None = refl
+outward_alike p q e (suc n) (Some o) = ap (λ l. o ∷ l) (ap (outward p n) (e o) ∙ outward_alike p q e n (q o))
+
+pub outer_is : (w : World) (o : ObjId) → stage_outer (stage_of w) o ≡ outer w o
+outer_is w o =
+    ap (λ n. ancestors (stage_parent (stage_of w)) n o) (length-map w.objects object_of)
+    ∙ ap (outward (stage_parent (stage_of w)) (length w.objects)) (parents_are w o)
+    ∙ outward_alike (stage_parent (stage_of w)) (parent w) (parents_are w) (length w.objects) (parent w o)
+
+-- the listeners that hear an event
+filter_map_is : {A B : Type 0} (f : A → B) (p : B → Bool) (xs : List A) → filter p (map f xs) ≡ map f (filter (λ x. p (f x)) xs)
+filter_map_is f p [] = refl
+filter_map_is f p (x ∷ xs) = by (filter_map_is f p xs) (p (f x))
+  where
+    by : filter p (map f xs) ≡ map f (filter (λ y. p (f y)) xs) → (t : Bool)
+        → (if t then f x ∷ filter p (map f xs) else filter p (map f xs)) ≡ map f (if t then x ∷ filter (λ y. p (f y)) xs else filter (λ y. p (f y)) xs)
+    by others true = ap (λ l. f x ∷ l) others
+    by others false = others
+
+hearing_is : (kind : List ℕ) (phase : Phase) (ls : List Listener)
+    → hearing (λ r. r.event) kind phase (map registration_of ls) ≡ map registration_of (hearing (λ l. l.event) kind phase ls)
+hearing_is kind Capture ls = refl
+hearing_is kind Target ls = filter_map_is registration_of (λ r. bytes_eq r.event kind) ls
+hearing_is kind Bubble ls = filter_map_is registration_of (λ r. bytes_eq r.event kind) ls
+
+pub heard_is : (kind : List ℕ) (phase : Phase) (w : World) (o : ObjId)
+    → hearing (λ r. r.event) kind phase (stage_listeners (stage_of w) o) ≡ map registration_of (hearing (λ l. l.event) kind phase (listeners w o))
+heard_is kind phase w o = ap (hearing (λ r. r.event) kind phase) (ap stage_listeners_of (object_is w o) ∙ by (component w o)) ∙ hearing_is kind phase (listeners w o)
+  where
+    by : (c : Option Component) → stage_listeners_of (option_map object_of c) ≡ map registration_of (listeners_of c)
+    by None = refl
+    by (Some c) = refl
+
+-- what a name reaches
+pub reached_is : (w : World) (document : ObjId) (name : List ℕ) → stage_reached (stage_of w) (Some document) name ≡ reached w document name
+reached_is w document name = ap (λ p. stage_shown (stage_of w) document (slot_held p)) (property_is name w document) ∙ by (property_in name (component w document))
+  where
+    shown_is : (o : Option ObjId) → stage_shown (stage_of w) document o ≡ shown w document o
+    shown_is None = refl
+    shown_is (Some o) = ap (λ l. if list_any (is_object document) l then Some o else None) (outer_is w o)
+
+    by : (p : Option Property) → stage_shown (stage_of w) document (slot_held (option_map slot_of p)) ≡ shown w document (held p)
+    by None = refl
+    by (Some p) = shown_is (ref_of p.value)

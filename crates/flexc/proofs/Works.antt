@@ -6,7 +6,8 @@ use Rattle.flex_edge.specs.Calls.{SameCounts, Changes}
 use Rattle.flexc.specs.Command.{At_script, HasBuilt, HasWrittenFile, HasNoMemory, Early}
 use Rattle.flexc.specs.PlaysAs.{PlaysAs}
 use Rattle.flexc.specs.Words.{AreWords}
-use Rattle.flexc.specs.Source.{IsNotBuilt}
+use Rattle.flex_front.specs.Source.{IsNotBuilt}
+use Rattle.avm2_machine.specs.declared.event.UserEvent.{UserEvent}
 use Rattle.flex_edge.specs.Whole.{MakesNone, ReadsFile, WritesFile}
 use Rattle.flexc.specs.Work.{read_failure, IsRefused, HasNoDocument, HasFailed}
 use Rattle.flexc.specs.declared.command.Failure.{Failure}
@@ -60,12 +61,13 @@ nothing_to_play words script out main failure.CannotPrint old new before are h =
 nothing_to_play words script out main failure.NoMemory old new before are h = Early script out main are h refl
 
 -- a document was built, and then memory was refused
-pub built_early : (words : List (List ℕ)) (script out main : List ℕ) (document : Document) (old new : FilesState) (before : SinkState) → AreWords words script out main
-    → HasBuilt script main document old new → HasNoMemory words old new before before
-built_early words script out main document old new before are h =
+pub built_early : (words : List (List ℕ)) (script out main : List ℕ) (document : Document) (events : List UserEvent) (old new : FilesState) (before : SinkState)
+    → AreWords words script out main → HasBuilt script main document events old new → HasNoMemory words old new before before
+built_early words script out main document events old new before are h =
     Early script out main are (only_read script main h.source h.commands old h.read.mid new h.read.first h.read.second) refl
 
 -- the file that was to be written plays as the document
-abbrev pub written_file : (script out main bytes : List ℕ) (document : Document) (result : Result (Unit {0}) WriteRefusal) (old mid new : FilesState) → HasBuilt script main document old mid
-    → PlaysAs bytes document → WritesFile mid out bytes result new → HasWrittenFile script out main document result old new
-written_file script out main bytes document result old mid new built plays written = record { bytes = bytes; mid = mid; built = built; plays = plays; written = written }
+abbrev pub written_file : (script out main bytes : List ℕ) (document : Document) (events : List UserEvent) (result : Result (Unit {0}) WriteRefusal) (old mid new : FilesState)
+    → HasBuilt script main document events old mid → PlaysAs bytes document → WritesFile mid out bytes result new → HasWrittenFile script out main document events result old new
+written_file script out main bytes document events result old mid new built plays written =
+    record { bytes = bytes; mid = mid; built = built; plays = plays; written = written }

@@ -1,7 +1,8 @@
 -- What `command` does and answers.
-use Rattle.std.specs.Prelude.{◌≡◌, ℕ, ◌<◌, ◌≤◌, List, [], ◌++◌, length, IsTrue, Some, None, Result, Ok, Err, codes, ◌⊎◌}
+use Rattle.std.specs.Prelude.{◌≡◌, ℕ, ◌<◌, ◌≤◌, List, ◌++◌, length, IsTrue, Some, Result, Ok, Err, codes, ◌⊎◌}
 use Rattle.flex_base.specs.declared.outcome.Outcome.{Outcome}
 use Rattle.flex_base.specs.declared.outcome.Outcome.TheVariants.{Ended, Stopped, TurnsSpent, Fault}
+use Rattle.flex_base.specs.declared.outcome.Stop.TheVariants.{Cells}
 use Rattle.flex_edge.specs.Outside.{Rose, FilesState, SinkState}
 use Rattle.flex_edge.specs.Calls.{SameCounts, SameOthers, Changes, SinkChanges}
 use Rattle.flexc.specs.declared.command.Status.{Status}
@@ -12,10 +13,11 @@ use Rattle.flex_edge.specs.declared.output.WriteRefusal.TheVariants as write
 use Rattle.flex_front.specs.declared.document.Document.{Document}
 use Rattle.flexc.specs.Meaning.{source_trace}
 use Rattle.flexc.specs.PlaysAs.{PlaysAs}
-use Rattle.flexc.specs.Lines.{other_line, script_line}
+use Rattle.flexc.specs.Lines.{script_of, script_line}
 use Rattle.flexc.specs.Words.{AreWords, IsNoCommand, turns}
 use Rattle.script_player.specs.Printed.{HasPlayed, Plays}
-use Rattle.flexc.specs.Source.{HasDocument, IsNotBuilt}
+use Rattle.flex_front.specs.Source.{HasDocument, IsNotBuilt}
+use Rattle.avm2_machine.specs.declared.event.UserEvent.{UserEvent}
 use Rattle.script_player.specs.Trace.{text, with_end}
 use Rattle.flex_edge.specs.Whole.{MakesNone, ReadsFile, WritesFile, Prints, HasTaken}
 
@@ -29,9 +31,9 @@ outcome_status (Stopped stop) = status 1
 outcome_status TurnsSpent = status 6
 outcome_status (Fault fault) = status 11
 
--- how the play of a document that is built so far comes to its end: by itself, or because its turns are spent
+-- how the play of a document that is built so far comes to its end: by itself, because its turns are spent, or because the cells don't hold out for an event
 abbrev pub IsEnd : Outcome → Type 0
-IsEnd outcome = (outcome ≡ Ended) ⊎ (outcome ≡ TurnsSpent)
+IsEnd outcome = (outcome ≡ Ended) ⊎ ((outcome ≡ TurnsSpent) ⊎ (outcome ≡ Stopped Cells))
 
 -- the main source was read whole, and then the script
 pub record HasRead (script main source commands : List ℕ) (old new : FilesState) : Type 0 where
@@ -46,19 +48,19 @@ pub data FailsToRead (script main name : List ℕ) (refusal : ReadRefusal) (old 
       (source : List ℕ) (mid : FilesState) (first : ReadsFile old main (Ok source) mid) (is : name ≡ script) (fails : ReadsFile mid script (Err refusal) new)
       → FailsToRead script main name refusal old new
 
--- the source was read, and so was a script of which nothing is to be done; the source has this document
-pub record HasBuilt (script main : List ℕ) (document : Document) (old new : FilesState) : Type 0 where
+-- the source was read, and so was a script; the source has this document, and the script says these events
+pub record HasBuilt (script main : List ℕ) (document : Document) (events : List UserEvent) (old new : FilesState) : Type 0 where
   pub source : List ℕ
   pub commands : List ℕ
   pub read : HasRead script main source commands old new
-  pub idle : other_line commands ≡ None
+  pub says : script_of commands ≡ Ok events
   pub has : HasDocument main source document
 
 -- a file that plays as the document was to be written, and this came of it
-pub record HasWrittenFile (script out main : List ℕ) (document : Document) (result : Result (Unit {0}) WriteRefusal) (old new : FilesState) : Type 0 where
+pub record HasWrittenFile (script out main : List ℕ) (document : Document) (events : List UserEvent) (result : Result (Unit {0}) WriteRefusal) (old new : FilesState) : Type 0 where
   pub bytes : List ℕ
   pub mid : FilesState
-  pub built : HasBuilt script main document old mid
+  pub built : HasBuilt script main document events old mid
   pub plays : PlaysAs bytes document
   pub written : WritesFile mid out bytes result new
 
@@ -80,11 +82,11 @@ pub data HasNoMemory (words : List (List ℕ)) (old new : FilesState) (before af
   Early : (script out main : List ℕ) (are : AreWords words script out main) (files : Changes old new (SameCounts old new) (MakesNone old new))
       (sink : after ≡ before) → HasNoMemory words old new before after
   -- while it was written
-  Writing : (script out main : List ℕ) (document : Document) (are : AreWords words script out main)
-      (written : HasWrittenFile script out main document (Err write.NoMemory) old new) (sink : after ≡ before) → HasNoMemory words old new before after
+  Writing : (script out main : List ℕ) (document : Document) (events : List UserEvent) (are : AreWords words script out main)
+      (written : HasWrittenFile script out main document events (Err write.NoMemory) old new) (sink : after ≡ before) → HasNoMemory words old new before after
   -- while it was played
-  Playing : (script out main : List ℕ) (document : Document) (are : AreWords words script out main)
-      (written : HasWrittenFile script out main document (Ok tt) old new) (plays : Plays written.bytes (turns words) before (Err write.NoMemory) after)
+  Playing : (script out main : List ℕ) (document : Document) (events : List UserEvent) (are : AreWords words script out main)
+      (written : HasWrittenFile script out main document events (Ok tt) old new) (plays : Plays written.bytes events (turns words) before (Err write.NoMemory) after)
       → HasNoMemory words old new before after
 
 -- what a command did, and the status that it answered
@@ -97,25 +99,25 @@ pub data Course (words : List (List ℕ)) (old new : FilesState) (before after :
   Not_built : (script out main source commands : List ℕ) (are : AreWords words script out main) (has_read : HasRead script main source commands old new)
       (refused : IsNotBuilt main source) (says : Says 3 (main ++ codes ":1:1: NotYetBuilt") before after answer) → Course words old new before after answer
   Bad_script : (script out main source commands : List ℕ) (document : Document) (line : ℕ) (are : AreWords words script out main)
-      (has_read : HasRead script main source commands old new) (has : HasDocument main source document) (other : other_line commands ≡ Some line)
+      (has_read : HasRead script main source commands old new) (has : HasDocument main source document) (other : script_of commands ≡ Err line)
       (says : Says 4 (script_line line) before after answer) → Course words old new before after answer
-  Cannot_write : (script out main : List ℕ) (document : Document) (are : AreWords words script out main)
-      (written : HasWrittenFile script out main document (Err write.Failed) old new) (says : Says 8 (codes "cannot write " ++ out) before after answer)
+  Cannot_write : (script out main : List ℕ) (document : Document) (events : List UserEvent) (are : AreWords words script out main)
+      (written : HasWrittenFile script out main document events (Err write.Failed) old new) (says : Says 8 (codes "cannot write " ++ out) before after answer)
       → Course words old new before after answer
-  Cannot_print : (script out main : List ℕ) (document : Document) (are : AreWords words script out main)
-      (written : HasWrittenFile script out main document (Ok tt) old new) (plays : Plays written.bytes (turns words) before (Err write.Failed) after) (is : answer ≡ status 8)
+  Cannot_print : (script out main : List ℕ) (document : Document) (events : List UserEvent) (are : AreWords words script out main)
+      (written : HasWrittenFile script out main document events (Ok tt) old new) (plays : Plays written.bytes events (turns words) before (Err write.Failed) after) (is : answer ≡ status 8)
       → Course words old new before after answer
   No_memory : (without : HasNoMemory words old new before after) (is : answer ≡ status 9) → Course words old new before after answer
-  Has_played : (script out main : List ℕ) (document : Document) (outcome : Outcome) (are : AreWords words script out main)
-      (written : HasWrittenFile script out main document (Ok tt) old new) (plays : HasPlayed written.bytes (turns words) outcome before after)
+  Has_played : (script out main : List ℕ) (document : Document) (events : List UserEvent) (outcome : Outcome) (are : AreWords words script out main)
+      (written : HasWrittenFile script out main document events (Ok tt) old new) (plays : HasPlayed written.bytes events (turns words) outcome before after)
       (is : answer ≡ outcome_status outcome) (comes : IsEnd outcome) → Course words old new before after answer
 
 -- both files of the command have these bytes, and the other one has the written bytes now
-pub record HoldsFile (script out main source bytes : List ℕ) (old new : FilesState) : Type 0 where
+pub record HoldsFile (script out main source bytes : List ℕ) (events : List UserEvent) (old new : FilesState) : Type 0 where
   pub source_there : old.bytes_of main ≡ Some source
   pub commands : List ℕ
   pub script_there : old.bytes_of script ≡ Some commands
-  pub idle : other_line commands ≡ None
+  pub says : script_of commands ≡ Ok events
   pub written : new.bytes_of out ≡ Some bytes
   pub others : SameOthers out old new
 
@@ -127,15 +129,16 @@ pub record HasPrintedTrace (words : List (List ℕ)) (outcome : Outcome) (old ne
   pub source : List ℕ
   pub bytes : List ℕ
   pub document : Document
+  pub events : List UserEvent
   pub are : AreWords words script out main
   pub has : HasDocument main source document
   pub plays : PlaysAs bytes document
-  pub files : Changes old new (SameCounts old new) (HoldsFile script out main source bytes old new)
-  pub printed : SinkChanges before after (after.write_faults ≡ before.write_faults) (after.taken ≡ before.taken ++ text (source_trace document [] (turns words)))
-  pub comes_to : (source_trace document [] (turns words)).outcome ≡ outcome
+  pub files : Changes old new (SameCounts old new) (HoldsFile script out main source bytes events old new)
+  pub printed : SinkChanges before after (after.write_faults ≡ before.write_faults) (after.taken ≡ before.taken ++ text (source_trace document events (turns words)))
+  pub comes_to : (source_trace document events (turns words)).outcome ≡ outcome
 
--- the words name a main source with this document, and a script of which nothing is to be done
-pub record IsRunnable (words : List (List ℕ)) (files : FilesState) (document : Document) : Type 0 where
+-- the words name a main source with this document, and a script with these events
+pub record IsRunnable (words : List (List ℕ)) (files : FilesState) (document : Document) (events : List UserEvent) : Type 0 where
   pub script : List ℕ
   pub out : List ℕ
   pub main : List ℕ
@@ -146,7 +149,7 @@ pub record IsRunnable (words : List (List ℕ)) (files : FilesState) (document :
   pub commands : List ℕ
   pub script_there : files.bytes_of script ≡ Some commands
   pub script_fits : length commands ≤ 1048576
-  pub idle : other_line commands ≡ None
+  pub says : script_of commands ≡ Ok events
   pub has : HasDocument main source document
 
 -- no count of the files' faults rose
@@ -175,7 +178,7 @@ pub data Refuses (words : List (List ℕ)) (files : FilesState) (meant : ℕ) (l
   For_source : (script out main source commands : List ℕ) (are : AreWords words script out main) (both : HoldsBoth script main source commands files)
       (refused : IsNotBuilt main source) (status_is : meant ≡ 3) (line_is : line ≡ main ++ codes ":1:1: NotYetBuilt") → Refuses words files meant line
   For_script : (script out main source commands : List ℕ) (document : Document) (number : ℕ) (are : AreWords words script out main)
-      (both : HoldsBoth script main source commands files) (has : HasDocument main source document) (other : other_line commands ≡ Some number)
+      (both : HoldsBoth script main source commands files) (has : HasDocument main source document) (other : script_of commands ≡ Err number)
       (status_is : meant ≡ 4) (line_is : line ≡ script_line number) → Refuses words files meant line
 
 -- the line was printed, all of it and nothing else, and gave this status
@@ -192,10 +195,10 @@ RefusesRightly words old new before after answer =
 -- what can be run is run, and its outcome answered, where nothing fails outside and memory isn't refused
 abbrev pub RunsWhole : List (List ℕ) → FilesState → FilesState → SinkState → SinkState → Status → Type 0
 RunsWhole words old new before after answer =
-    (document : Document) → IsRunnable words old document → NoFileFault old new → NoSinkFault before after
-    → (answer ≡ outcome_status (source_trace document [] (turns words)).outcome) ⊎ (answer ≡ status 9)
+    (document : Document) (events : List UserEvent) → IsRunnable words old document events → NoFileFault old new → NoSinkFault before after
+    → (answer ≡ outcome_status (source_trace document events (turns words)).outcome) ⊎ (answer ≡ status 9)
 
 -- of what can be run a first part of the trace is printed, unless a file fails
 abbrev pub RunsInPart : List (List ℕ) → FilesState → FilesState → SinkState → SinkState → Type 0
 RunsInPart words old new before after =
-    (document : Document) → IsRunnable words old document → NoFileFault old new → IsTrue before.tells → HasTaken (text (source_trace document [] (turns words))) before after
+    (document : Document) (events : List UserEvent) → IsRunnable words old document events → NoFileFault old new → IsTrue before.tells → HasTaken (text (source_trace document events (turns words))) before after

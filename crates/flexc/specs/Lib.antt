@@ -1,5 +1,4 @@
 pub mod Emitted
-pub mod Source
 pub mod World
 pub mod Meaning
 pub mod Examples
@@ -8,3 +7,4 @@ pub mod Lines
 pub mod Words
 pub mod Command
 pub mod Work
+pub mod GoingOn

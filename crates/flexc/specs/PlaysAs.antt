@@ -4,7 +4,7 @@ use Rattle.flex_front.specs.declared.document.Document.{Document}
 use Rattle.flexc.specs.Meaning.{source_trace}
 use Rattle.script_player.specs.Playable.{IsPlayable}
 use Rattle.script_player.specs.Playing.{HasTrace, NeverFaults}
-use Rattle.script_player.specs.Script.{UserEvent}
+use Rattle.avm2_machine.specs.declared.event.UserEvent.{UserEvent}
 use Rattle.script_player.specs.Trace.{Story}
 
 -- under every script and with every number of turns the file has the trace that the source means, has no other, and meets no fault

@@ -1,21 +1,23 @@
 -- What the parts of `command` do, before a line is printed that says why nothing was played.
-use Rattle.std.specs.Prelude.{◌≡◌, ℕ, List, ◌++◌, Some, Result, Ok, Err, codes}
+use Rattle.std.specs.Prelude.{◌≡◌, ℕ, List, ◌++◌, Result, Ok, Err, codes}
 use Rattle.std.specs.Borrow.{Bor}
 use Rattle.flex_base.specs.declared.outcome.Outcome.{Outcome}
 use Rattle.flex_edge.specs.Outside.{FilesState, SinkState}
 use Rattle.flex_edge.specs.Calls.{SameCounts, Changes}
 use Rattle.flexc.specs.declared.command.Failure.{Failure}
 use Rattle.flexc.specs.declared.command.Failure.TheVariants as failure
+use Rattle.flexc.specs.declared.command.Job.{Job}
 use Rattle.flexc.specs.declared.command.Status.{Status}
 use Rattle.flex_edge.specs.declared.input.ReadRefusal.{ReadRefusal}
 use Rattle.flex_edge.specs.declared.input.ReadRefusal.TheVariants as read
 use Rattle.flex_edge.specs.declared.output.WriteRefusal.TheVariants as write
 use Rattle.flex_front.specs.declared.document.Document.{Document}
 use Rattle.flexc.specs.Command.{status, HasRead, FailsToRead, HasBuilt, HasWrittenFile, Says, HasNoMemory}
-use Rattle.flexc.specs.Lines.{other_line, script_line}
+use Rattle.flexc.specs.Lines.{script_of, script_line}
 use Rattle.flexc.specs.Words.{AreWords, IsNoCommand, turns}
 use Rattle.script_player.specs.Printed.{HasPlayed, Plays}
-use Rattle.flexc.specs.Source.{HasDocument, IsNotBuilt}
+use Rattle.flex_front.specs.Source.{HasDocument, IsNotBuilt}
+use Rattle.avm2_machine.specs.declared.event.UserEvent.{UserEvent}
 use Rattle.flex_edge.specs.Whole.{MakesNone}
 
 -- why a file wasn't read, in the words of the command
@@ -31,14 +33,14 @@ pub record IsRefused (script main : List ℕ) (old new : FilesState) : Type 0 wh
   pub has_read : HasRead script main source commands old new
   pub refused : IsNotBuilt main source
 
--- both files were read, and this is the first line of the script of which something is to be done
+-- both files were read, and this is the first line of the script that isn't known
 pub record HasCommands (script main : List ℕ) (line : ℕ) (old new : FilesState) : Type 0 where
   pub source : List ℕ
   pub commands : List ℕ
   pub document : Document
   pub has_read : HasRead script main source commands old new
   pub has : HasDocument main source document
-  pub other : other_line commands ≡ Some line
+  pub other : script_of commands ≡ Err line
 
 -- why there is no document to be played
 abbrev pub HasNoDocument : List ℕ → List ℕ → Failure → FilesState → FilesState → Type 0
@@ -50,9 +52,9 @@ HasNoDocument script main failure.NoMemory old new = Changes old new (SameCounts
 HasNoDocument script main _ old new = ⊥
 
 -- the reading and judging of the source and the script
-abbrev pub ReadsDocument : List ℕ → List ℕ → FilesState → Result Document Failure → FilesState → Type 0
-ReadsDocument script main old (Ok document) new = HasBuilt script main document old new
-ReadsDocument script main old (Err failure) new = HasNoDocument script main failure old new
+abbrev pub ReadsJob : List ℕ → List ℕ → FilesState → Result Job Failure → FilesState → Type 0
+ReadsJob script main old (Ok job) new = HasBuilt script main job.document job.script old new
+ReadsJob script main old (Err failure) new = HasNoDocument script main failure old new
 
 -- the words are those of a command, for whose files this failure holds
 pub record HasNothingToPlay (words : List (List ℕ)) (failure : Failure) (old new : FilesState) : Type 0 where
@@ -66,26 +68,29 @@ pub record HasNotWritten (words : List (List ℕ)) (out : List ℕ) (old new : F
   pub script : List ℕ
   pub main : List ℕ
   pub document : Document
+  pub events : List UserEvent
   pub are : AreWords words script out main
-  pub written : HasWrittenFile script out main document (Err write.Failed) old new
+  pub written : HasWrittenFile script out main document events (Err write.Failed) old new
 
 pub record HasNotPrinted (words : List (List ℕ)) (old new : FilesState) (before after : SinkState) : Type 0 where
   pub script : List ℕ
   pub out : List ℕ
   pub main : List ℕ
   pub document : Document
+  pub events : List UserEvent
   pub are : AreWords words script out main
-  pub written : HasWrittenFile script out main document (Ok tt) old new
-  pub plays : Plays written.bytes (turns words) before (Err write.Failed) after
+  pub written : HasWrittenFile script out main document events (Ok tt) old new
+  pub plays : Plays written.bytes events (turns words) before (Err write.Failed) after
 
 pub record HasRun (words : List (List ℕ)) (outcome : Outcome) (old new : FilesState) (before after : SinkState) : Type 0 where
   pub script : List ℕ
   pub out : List ℕ
   pub main : List ℕ
   pub document : Document
+  pub events : List UserEvent
   pub are : AreWords words script out main
-  pub written : HasWrittenFile script out main document (Ok tt) old new
-  pub plays : HasPlayed written.bytes (turns words) outcome before after
+  pub written : HasWrittenFile script out main document events (Ok tt) old new
+  pub plays : HasPlayed written.bytes events (turns words) outcome before after
 
 -- why nothing was played, or not to its end
 abbrev pub HasFailed : List (List ℕ) → Failure → FilesState → FilesState → SinkState → SinkState → Type 0

@@ -10,11 +10,13 @@ use Rattle.flex_base.specs.declared.record.TraceItem.TheVariants.{Made, Written,
 use Rattle.flex_base.specs.declared.value.ObjId.{ObjId}
 use Rattle.flex_base.specs.declared.value.Value.{Value}
 use Rattle.avm2_machine.specs.declared.catalog.NativeClass.{NativeClass}
+use Rattle.avm2_machine.specs.Events.{ancestors}
 
--- what an object is: one of the main source, or of a native class
+-- what an object is: one of the main source, a component of a native class, or the event of a click
 pub data Kind : Type 0 where
   Main : Kind
   Native : (class : NativeClass) → Kind
+  Click : Kind
 
 -- what a property holds: a text, or an object of a native class
 pub data Content : Type 0 where
@@ -26,10 +28,20 @@ pub record Property : Type 0 where
   pub content : Content
   pub value : Value
 
+-- a handler of a document, which is registered for the events of a type: its number among the document's handlers, and what it traces
+pub record Listener : Type 0 where
+  pub event : List ℕ
+  pub document : ObjId
+  pub number : ℕ
+  pub traces : List ℕ
+
 pub record Component : Type 0 where
   pub kind : Kind
   pub properties : List Property
   pub children : List ObjId
+  pub parent : Option ObjId
+  -- in order of registration
+  pub listeners : List Listener
 
 pub record World : Type 0 where
   -- the objects in the order in which they were made: the first has the number 1
@@ -79,12 +91,18 @@ next_number w = record { 0 = suc (length w.objects) }
 abbrev pub with_component : Component → ℕ → World → World
 with_component c cost w = record w { objects = w.objects ++ c ∷ []; cells = w.cells + cost }
 
--- makes an object of a class with this name: it takes 16 cells and one for each property that its source declares, of 1,000,000
-abbrev pub make : Kind → List ℕ → List Property → ℕ → World → Result ObjId
-make kind class properties declared w =
+abbrev pub new_component : Kind → List Property → Component
+new_component kind properties = record { kind = kind; properties = properties; children = []; parent = None; listeners = [] }
+
+-- an object takes the next number, 16 cells and one for each property that its source declares, of 1,000,000
+abbrev pub take : Kind → List Property → ℕ → World → Result ObjId
+take kind properties declared w =
     if nat_lt 1000000 (w.cells + (16 + declared)) then Halts (Stopped Cells) w
-    else Goes (next_number w)
-    (note (Made (next_number w) class) (with_component (record { kind = kind; properties = properties; children = [] }) (16 + declared) w))
+    else Goes (next_number w) (with_component (new_component kind properties) (16 + declared) w)
+
+-- makes an object of a class with this name
+abbrev pub make : Kind → List ℕ → List Property → ℕ → World → Result ObjId
+make kind class properties declared w = bind (take kind properties declared w) (λ o w1. Goes o (note (Made o class) w1))
 
 abbrev pub numbered : List Component → ℕ → Option Component
 numbered objects zero = None
@@ -132,9 +150,40 @@ abbrev pub child_count : Option Component → ℕ
 child_count None = 0
 child_count (Some c) = length c.children
 
+abbrev pub with_last : ObjId → ObjId → World → World
+with_last parent child w = record w { objects = changed (λ c. record c { children = c.children ++ child ∷ [] }) parent.0 w.objects }
+
+abbrev pub with_parent : ObjId → ObjId → World → World
+with_parent parent child w = record w { objects = changed (λ c. record c { parent = Some parent }) child.0 w.objects }
+
 abbrev pub with_child : ObjId → ObjId → World → World
-with_child parent child w = record w { objects = changed (λ c. record c { children = c.children ++ child ∷ [] }) parent.0 w.objects }
+with_child parent child w = with_parent parent child (with_last parent child w)
 
 -- adds a declared child behind those that were declared and added before it
 abbrev pub add : ObjId → ObjId → World → Result (Unit {0})
 add parent child w = Goes tt (note (Added parent child (child_count (component w parent))) (with_child parent child w))
+
+-- registers a listener behind those that an object has
+abbrev pub with_listener : ObjId → Listener → World → World
+with_listener o listener w = record w { objects = changed (λ c. record c { listeners = c.listeners ++ listener ∷ [] }) o.0 w.objects }
+
+abbrev pub listen : ObjId → Listener → World → Result (Unit {0})
+listen o listener w = Goes tt (with_listener o listener w)
+
+abbrev pub parent_of : Option Component → Option ObjId
+parent_of None = None
+parent_of (Some c) = c.parent
+
+abbrev pub parent : World → ObjId → Option ObjId
+parent w o = parent_of (component w o)
+
+-- an object's parent, that one's parent, and so on
+abbrev pub outer : World → ObjId → List ObjId
+outer w o = ancestors (parent w) (length w.objects) o
+
+abbrev pub listeners_of : Option Component → List Listener
+listeners_of None = []
+listeners_of (Some c) = c.listeners
+
+abbrev pub listeners : World → ObjId → List Listener
+listeners w o = listeners_of (component w o)

@@ -2,7 +2,8 @@
 
 ghost use Rattle.std.specs.Prelude.{◌≡◌, ◌++◌, [], ◌∷◌, IfOk};
 ghost use Rattle.abc_format.specs.Spelling.{abc_bytes};
-ghost use Rattle.flex_base.specs.declared.outcome.Outcome.TheVariants.{Ended, TurnsSpent};
+ghost use Rattle.flex_base.specs.declared.outcome.Outcome.TheVariants.{Ended, Stopped, TurnsSpent};
+ghost use Rattle.flex_base.specs.declared.outcome.Stop.TheVariants.{Cells};
 ghost use Rattle.swf_tags.specs.Spelling.{swf_bytes};
 ghost use Rattle.flexc.specs.Command.{Course, HasPrintedTrace, RunsWhole, RunsInPart, RefusesRightly, Says, outcome_status, status};
 ghost use Rattle.flexc.specs.Emitted.{abc_of, main_text};
@@ -10,16 +11,16 @@ ghost use Rattle.flexc.specs.PlaysAs.{PlaysAs};
 ghost use Rattle.flex_front.specs.Source.{AreNewIds, IsSmall};
 ghost use Rattle.flexc.specs.Words.{texts};
 ghost use Rattle.flex_edge.specs.Whole.{Prints};
-ghost use Rattle.flexc.specs.Work.{ReadsDocument, Reports, Works, read_failure};
+ghost use Rattle.flexc.specs.Work.{ReadsJob, Reports, Works, read_failure};
 
 use crate::emit::{MAIN, emit};
-use crate::script::first_other_line;
-use crate::source::document_of;
+use crate::script::{ScriptRefusal, read_script};
 use crate::words::{Run, read_words};
 use abc_format::write_abc;
-use flex_base::{Bytes, NoMemory, Outcome, Text};
+use avm2_machine::UserEvent;
+use flex_base::{Bytes, NoMemory, Outcome, Sequence, Text};
 use flex_edge::{Files, Observer, ReadRefusal, Sink, WriteRefusal, print, read_file, write_file};
-use flex_front::{Document, SourceRefusal};
+use flex_front::{Document, SourceRefusal, read_source};
 use itoa::Buffer;
 use script_player::play;
 use std::alloc::Global;
@@ -67,6 +68,13 @@ enum Failure<'a> {
     NoMemory,
 }
 
+/// What is to be played.
+#[derive(Drop)]
+struct Job {
+    document: Document,
+    script: Sequence<UserEvent>,
+}
+
 /// Does what the words say: `run --script S --out O [--turns N] MAIN` builds the main source, writes
 /// the SWF file O, plays its bytes with the script and so many turns, 1,000,000 where none are said,
 /// and prints the trace. This project's own.
@@ -83,6 +91,7 @@ pub fn command<F: Files, O: Sink>(
     requires { observers.old.items ≡ [] }
     ensures course { Course (texts words.now) (F.state files.old) (F.state files.new) (O.state out.old) (O.state out.new) result }
     ensures ended { result ≡ status 0 → HasPrintedTrace (texts words.now) Ended (F.state files.old) (F.state files.new) (O.state out.old) (O.state out.new) }
+    ensures stopped { result ≡ status 1 → HasPrintedTrace (texts words.now) (Stopped Cells) (F.state files.old) (F.state files.new) (O.state out.old) (O.state out.new) }
     ensures spent { result ≡ status 6 → HasPrintedTrace (texts words.now) TurnsSpent (F.state files.old) (F.state files.new) (O.state out.old) (O.state out.new) }
     ensures whole { RunsWhole (texts words.now) (F.state files.old) (F.state files.new) (O.state out.old) (O.state out.new) result }
     ensures refused { RefusesRightly (texts words.now) (F.state files.old) (F.state files.new) (O.state out.old) (O.state out.new) result }
@@ -115,8 +124,8 @@ fn build_and_play<'a, F: Files, O: Sink>(
     let Some(run) = read_words(words) else {
         return Err(Failure::BadUsage);
     };
-    let document = match read_document(alloc, run, files) {
-        Ok(document) => document,
+    let Job { document, script } = match read_job(alloc, run, files) {
+        Ok(job) => job,
         Err(failure) => return Err(failure),
     };
     let Ok(swf) = build(alloc, &document) else {
@@ -127,7 +136,7 @@ fn build_and_play<'a, F: Files, O: Sink>(
         Err(WriteRefusal::Failed) => return Err(Failure::CannotWrite(run.out)),
         Err(WriteRefusal::NoMemory) => return Err(Failure::NoMemory),
     }
-    match play(alloc, swf.as_slice(), run.turns, out) {
+    match play(alloc, swf.as_slice(), script.as_slice(), run.turns, out) {
         Ok(outcome) => Ok(outcome),
         Err(WriteRefusal::Failed) => Err(Failure::CannotPrint),
         Err(WriteRefusal::NoMemory) => Err(Failure::NoMemory),
@@ -135,31 +144,28 @@ fn build_and_play<'a, F: Files, O: Sink>(
 }
 
 // Reads the main source and then the script, and judges them in this order.
-fn read_document<'a, F: Files>(
-    alloc: Global,
-    run: Run<'a>,
-    files: &mut F,
-) -> Result<Document, Failure<'a>>
-    ensures read { ReadsDocument run.entry.script.now run.entry.main.now (F.state files.old) result (F.state files.new) }
-    ensures small { IfOk result IsSmall }
-    ensures distinct { IfOk result (λ document. AreNewIds [] document.elements) }
+fn read_job<'a, F: Files>(alloc: Global, run: Run<'a>, files: &mut F) -> Result<Job, Failure<'a>>
+    ensures read { ReadsJob run.entry.script.now run.entry.main.now (F.state files.old) result (F.state files.new) }
+    ensures small { IfOk result (λ job. IsSmall job.document) }
+    ensures distinct { IfOk result (λ job. AreNewIds [] job.document.elements) }
 {
     let source = match read_file(alloc, files, run.main) {
         Ok(source) => source,
         Err(refusal) => return Err(read_failure(refusal, run.main)),
     };
-    let script = match read_file(alloc, files, run.script) {
-        Ok(script) => script,
+    let commands = match read_file(alloc, files, run.script) {
+        Ok(commands) => commands,
         Err(refusal) => return Err(read_failure(refusal, run.script)),
     };
-    let document = match document_of(alloc, run.main, source.as_slice()) {
+    let document = match read_source(alloc, run.main, source.as_slice()) {
         Ok(document) => document,
         Err(SourceRefusal::NotYetBuilt) => return Err(Failure::NotYetBuilt(run.main)),
         Err(SourceRefusal::NoMemory) => return Err(Failure::NoMemory),
     };
-    match first_other_line(script.as_slice()) {
-        None => Ok(document),
-        Some(line) => Err(Failure::ScriptNotYetBuilt(line)),
+    match read_script(alloc, commands.as_slice()) {
+        Ok(script) => Ok(Job { document, script }),
+        Err(ScriptRefusal::NotYetBuilt(line)) => Err(Failure::ScriptNotYetBuilt(line)),
+        Err(ScriptRefusal::NoMemory) => Err(Failure::NoMemory),
     }
 }
 

@@ -1,12 +1,12 @@
 // The ABC of a document: its class, with one method for each activity.
 
-ghost use Rattle.std.specs.Prelude.{◌≡◌, ◌≤◌, ◌<◌, ◌++◌, ◌∷◌, [], length, map, pos, IfOk, OnOk, All};
+ghost use Rattle.std.specs.Prelude.{ℕ, ◌≡◌, ◌≤◌, ◌<◌, ◌+◌, ◌++◌, ◌∷◌, [], length, map, pos, IfOk, OnOk, All};
 ghost use Rattle.std.specs.List.{flat_map};
 ghost use Rattle.avm2_code.specs.Assembly.{FitsForm};
 ghost use Rattle.avm2_code.specs.Table.{operands};
 ghost use Rattle.avm2_code.specs.declared.parts.Part.{Part};
-ghost use Rattle.avm2_code.specs.declared.instruction.Instruction.TheVariants.{GetLocal1, PushString, SetProperty};
-ghost use Rattle.flexc.specs.Emitted.{encode_all, each_from, each_element, fixed_strings, element_strings, class_number, id_string, text_string, id_name, rank_int, fixed_names, namespaces, pool_of, plain_method, bindable, id_trait, building_trait, instance_traits, instance_of, class_info, script_info, making_code, attribute_code, place_code, element_code, building_code, body, bodies_of, abc_of};
+ghost use Rattle.avm2_code.specs.declared.instruction.Instruction.TheVariants.{GetLocal0, GetLocal1, PushString, SetProperty, GetProperty, CallPropVoid};
+ghost use Rattle.flexc.specs.Emitted.{encode_all, each_from, each_handler, fixed_strings, element_strings, handler_text, class_number, id_string, text_string, handler_string, id_name, handler_name, rank_int, fixed_names, element_names, namespaces, pool_of, plain_method, handler_method, methods_of, handler_number, bindable, id_trait, building_trait, handler_trait, instance_traits, instance_of, class_info, script_info, making_code, place_code, element_code, building_code, handler_code, body, handler_body, bodies_of, abc_of};
 
 use abc_format::{
     Abc, ClassInfo, ConstantPool, InstanceInfo, MetadataInfo, MethodBody, MethodInfo, Multiname,
@@ -21,7 +21,7 @@ use std::alloc::Global;
 pub const MAIN: &str = "Main";
 
 // The strings that every pool begins with are numbered from 1 on. Behind them stand each element's
-// id and text.
+// id, its text and the name of its handler.
 const MAIN_STRING: u32 = 1;
 
 const COMPONENTS_STRING: u32 = 2;
@@ -42,12 +42,25 @@ const BINDABLE_STRING: u32 = 9;
 
 const BUTTON_STRING: u32 = 10;
 
+const TRACE_STRING: u32 = 11;
+
+const CLICK_STRING: u32 = 12;
+
+const ADD_EVENT_LISTENER_STRING: u32 = 13;
+
+const EVENTS_STRING: u32 = 14;
+
+const MOUSE_EVENT_STRING: u32 = 15;
+
 const PUBLIC: u32 = 1;
 
 const COMPONENTS: u32 = 2;
 
 const RUNTIME: u32 = 3;
 
+const EVENTS: u32 = 4;
+
+// Behind the names that every pool begins with stand those of each element's id and of its handler.
 const MAIN_NAME: u32 = 1;
 
 const APPLICATION_NAME: u32 = 2;
@@ -62,6 +75,12 @@ const BUILDING_NAME: u32 = 6;
 
 const BUTTON_NAME: u32 = 7;
 
+const TRACE_NAME: u32 = 8;
+
+const ADD_EVENT_LISTENER_NAME: u32 = 9;
+
+const MOUSE_EVENT_NAME: u32 = 10;
+
 const SCRIPT_INITIALISER: u32 = 0;
 
 const CLASS_INITIALISER: u32 = 1;
@@ -69,6 +88,8 @@ const CLASS_INITIALISER: u32 = 1;
 const CONSTRUCTOR: u32 = 2;
 
 const BUILDING: u32 = 3;
+
+const FIRST_HANDLER: u32 = 4;
 
 /// The flag of a class whose instances have no properties but those of its traits.
 const SEALED: u8 = 0x01;
@@ -78,7 +99,7 @@ fn id_string(element: u32) -> u32
     requires { element < 100 }
     ensures { result ≡ id_string element }
 {
-    11 + 2 * element
+    16 + 3 * element
 }
 
 // The number of the string of an element's text.
@@ -86,7 +107,15 @@ fn text_string(element: u32) -> u32
     requires { element < 100 }
     ensures { result ≡ text_string element }
 {
-    12 + 2 * element
+    17 + 3 * element
+}
+
+// The number of the string of the name of an element's handler.
+fn handler_string(element: u32) -> u32
+    requires { element < 100 }
+    ensures { result ≡ handler_string element }
+{
+    18 + 3 * element
 }
 
 // The number of the name of an element's id.
@@ -94,7 +123,15 @@ fn id_name(element: u32) -> u32
     requires { element < 100 }
     ensures { result ≡ id_name element }
 {
-    8 + element
+    11 + 2 * element
+}
+
+// The number of the name of an element's handler.
+fn handler_name(element: u32) -> u32
+    requires { element < 100 }
+    ensures { result ≡ handler_name element }
+{
+    12 + 2 * element
 }
 
 // The number of the int that is an element's number.
@@ -123,7 +160,7 @@ pub fn emit(alloc: Global, document: &Document) -> Result<Abc, NoMemory>
     let elements = document.elements.as_slice();
     Ok(Abc {
         constant_pool: constant_pool(alloc, elements)?,
-        methods: methods(alloc)?,
+        methods: methods(alloc, elements)?,
         metadata: metadata(alloc)?,
         instances: instances(alloc, elements)?,
         classes: classes(alloc)?,
@@ -184,6 +221,11 @@ fn fixed_strings(alloc: Global) -> Result<Sequence<Text>, NoMemory>
     strings.push(Text::make(alloc, "#building")?)?;
     strings.push(Text::make(alloc, "Bindable")?)?;
     strings.push(Text::make(alloc, "Button")?)?;
+    strings.push(Text::make(alloc, "trace")?)?;
+    strings.push(Text::make(alloc, "click")?)?;
+    strings.push(Text::make(alloc, "addEventListener")?)?;
+    strings.push(Text::make(alloc, "flash.events")?)?;
+    strings.push(Text::make(alloc, "MouseEvent")?)?;
     Ok(strings)
 }
 
@@ -197,13 +239,31 @@ fn put_element_strings(
     match element {
         Element::Label { id, text } => {
             strings.push(id.clone()?)?;
-            strings.push(text.clone()?)
-        }
-        Element::Button { id, .. } => {
-            strings.push(id.clone()?)?;
+            strings.push(text.clone()?)?;
             strings.push(Text::make(alloc, "")?)
         }
+        Element::Button { id, click: None } => {
+            strings.push(id.clone()?)?;
+            strings.push(Text::make(alloc, "")?)?;
+            strings.push(Text::make(alloc, "")?)
+        }
+        Element::Button {
+            id,
+            click: Some(text),
+        } => {
+            strings.push(id.clone()?)?;
+            strings.push(text.clone()?)?;
+            strings.push(handler_text(alloc, id)?)
+        }
     }
+}
+
+// The name of the method that handles the clicks of an element.
+fn handler_text(alloc: Global, id: &Text) -> Result<Text, NoMemory>
+    ensures { IfOk result (λ text. text ≡ handler_text id.now) }
+{
+    let text = format!(in alloc; "#click-{}", id.as_str())?;
+    Text::make(alloc, text.as_str())
 }
 
 fn namespaces(alloc: Global) -> Result<Sequence<Namespace>, NoMemory>
@@ -222,13 +282,17 @@ fn namespaces(alloc: Global) -> Result<Sequence<Namespace>, NoMemory>
         kind: NamespaceKind::Namespace,
         name: RUNTIME_STRING,
     })?;
+    namespaces.push(Namespace {
+        kind: NamespaceKind::PackageNamespace,
+        name: EVENTS_STRING,
+    })?;
     Ok(namespaces)
 }
 
 #[tactic(auto, using(crate::proofs::Each::numbers))]
 fn multinames(alloc: Global, count: u32) -> Result<Sequence<Multiname>, NoMemory>
     requires { count ≤ 100 }
-    ensures { IfOk result (λ names. names ≡ fixed_names ++ each_from (λ k. Multiname.QName 1 (id_string k) ∷ []) 0 count) }
+    ensures { IfOk result (λ names. names ≡ fixed_names ++ each_from element_names 0 count) }
 {
     let mut multinames = Sequence::new(alloc);
     multinames.push(qualified(PUBLIC, MAIN_STRING))?;
@@ -238,10 +302,22 @@ fn multinames(alloc: Global, count: u32) -> Result<Sequence<Multiname>, NoMemory
     multinames.push(qualified(RUNTIME, PLACE_STRING))?;
     multinames.push(qualified(RUNTIME, BUILDING_STRING))?;
     multinames.push(qualified(COMPONENTS, BUTTON_STRING))?;
+    multinames.push(qualified(PUBLIC, TRACE_STRING))?;
+    multinames.push(qualified(PUBLIC, ADD_EVENT_LISTENER_STRING))?;
+    multinames.push(qualified(EVENTS, MOUSE_EVENT_STRING))?;
     for element in 0..count {
-        multinames.push(qualified(PUBLIC, id_string(element)))?;
+        put_element_names(&mut multinames, element)?;
     }
     Ok(multinames)
+}
+
+// The names of an element's id and of its handler.
+fn put_element_names(multinames: &mut Sequence<Multiname>, element: u32) -> Result<(), NoMemory>
+    requires { element < 100 }
+    ensures { OnOk result (multinames.new ≡ multinames.old ++ element_names element) }
+{
+    multinames.push(qualified(PUBLIC, id_string(element)))?;
+    multinames.push(qualified(RUNTIME, handler_string(element)))
 }
 
 fn qualified(namespace: u32, name: u32) -> Multiname
@@ -250,19 +326,20 @@ fn qualified(namespace: u32, name: u32) -> Multiname
     Multiname::QName { namespace, name }
 }
 
-fn methods(alloc: Global) -> Result<Sequence<MethodInfo>, NoMemory>
-    ensures { IfOk result (λ methods. methods ≡ plain_method ∷ plain_method ∷ plain_method ∷ plain_method ∷ []) }
+fn methods(alloc: Global, elements: &[Element]) -> Result<Sequence<MethodInfo>, NoMemory>
+    ensures { IfOk result (λ methods. methods ≡ methods_of elements.now) }
 {
     let mut methods = Sequence::new(alloc);
-    methods.push(method(alloc))?;
-    methods.push(method(alloc))?;
-    methods.push(method(alloc))?;
-    methods.push(method(alloc))?;
+    methods.push(plain_method(alloc))?;
+    methods.push(plain_method(alloc))?;
+    methods.push(plain_method(alloc))?;
+    methods.push(plain_method(alloc))?;
+    put_handler_methods(alloc, &mut methods, elements)?;
     Ok(methods)
 }
 
 // A method without parameters and without a result.
-fn method(alloc: Global) -> MethodInfo
+fn plain_method(alloc: Global) -> MethodInfo
     ensures { result ≡ plain_method }
 {
     MethodInfo {
@@ -273,6 +350,48 @@ fn method(alloc: Global) -> MethodInfo
         options: Sequence::new(alloc),
         param_names: Sequence::new(alloc),
     }
+}
+
+// A method for each handler, whichever numbers the first handler and the first element have.
+fn put_handler_methods(
+    alloc: Global,
+    methods: &mut Sequence<MethodInfo>,
+    elements: &[Element],
+) -> Result<(), NoMemory>
+    ensures { OnOk result ((h k : ℕ) → methods.new ≡ methods.old ++ each_handler (λ m n. handler_method) h k elements.now) }
+{
+    match elements {
+        [] => Ok(()),
+        [Element::Button { click: Some(_), .. }, rest @ ..] => {
+            methods.push(handler_method(alloc)?)?;
+            put_handler_methods(alloc, methods, rest)
+        }
+        [_, rest @ ..] => put_handler_methods(alloc, methods, rest),
+    }
+}
+
+// The method of a handler, whose parameter is the event.
+fn handler_method(alloc: Global) -> Result<MethodInfo, NoMemory>
+    ensures { IfOk result (λ method. method ≡ handler_method) }
+{
+    let mut param_types = Sequence::new(alloc);
+    param_types.push(MOUSE_EVENT_NAME)?;
+    Ok(MethodInfo {
+        return_type: 0,
+        param_types,
+        name: 0,
+        flags: 0,
+        options: Sequence::new(alloc),
+        param_names: Sequence::new(alloc),
+    })
+}
+
+// The number of the method of a handler.
+fn handler_number(handler: u32) -> u32
+    requires { handler < 100 }
+    ensures { result ≡ handler_number handler }
+{
+    FIRST_HANDLER + handler
 }
 
 fn metadata(alloc: Global) -> Result<Sequence<MetadataInfo>, NoMemory>
@@ -313,6 +432,7 @@ fn instance_traits(alloc: Global, elements: &[Element]) -> Result<Sequence<Trait
         traits.push(id_trait(alloc, number as u32, &elements[number])?)?;
     }
     traits.push(building_trait(alloc))?;
+    put_handler_traits(alloc, &mut traits, 0, 0, elements)?;
     Ok(traits)
 }
 
@@ -345,6 +465,45 @@ fn building_trait(alloc: Global) -> Trait
         kind: TraitKind::Method {
             disp_id: 0,
             method: BUILDING,
+        },
+        attributes: 0,
+        metadata: Sequence::new(alloc),
+    }
+}
+
+// A trait for each handler, where the first handler and the first element have these numbers.
+fn put_handler_traits(
+    alloc: Global,
+    traits: &mut Sequence<Trait>,
+    handler: u32,
+    number: u32,
+    elements: &[Element],
+) -> Result<(), NoMemory>
+    requires handlers { handler ≤ number }
+    requires elements { number + length elements.now ≤ 100 }
+    ensures { OnOk result (traits.new ≡ traits.old ++ each_handler handler_trait handler number elements.now) }
+{
+    match elements {
+        [] => Ok(()),
+        [Element::Button { click: Some(_), .. }, rest @ ..] => {
+            traits.push(handler_trait(alloc, handler, number))?;
+            put_handler_traits(alloc, traits, handler + 1, number + 1, rest)
+        }
+        [_, rest @ ..] => put_handler_traits(alloc, traits, handler, number + 1, rest),
+    }
+}
+
+// The method that handles the clicks of an element.
+fn handler_trait(alloc: Global, handler: u32, number: u32) -> Trait
+    requires handler { handler < 100 }
+    requires number { number < 100 }
+    ensures { result ≡ handler_trait handler number }
+{
+    Trait {
+        name: handler_name(number),
+        kind: TraitKind::Method {
+            disp_id: 0,
+            method: handler_number(handler),
         },
         attributes: 0,
         metadata: Sequence::new(alloc),
@@ -443,6 +602,27 @@ fn text_code(number: u32) -> [Instruction; 3]
     ]
 }
 
+// Registers the handler of a Button's clicks.
+fn registering_code(number: u32) -> [Instruction; 5]
+    requires { number < 100 }
+    ensures { result ≡ GetLocal1 ∷ PushString 12 ∷ GetLocal0 ∷ GetProperty (handler_name number) ∷ CallPropVoid 9 2 ∷ [] }
+{
+    [
+        Instruction::GetLocal1,
+        Instruction::PushString {
+            string: CLICK_STRING,
+        },
+        Instruction::GetLocal0,
+        Instruction::GetProperty {
+            name: handler_name(number),
+        },
+        Instruction::CallPropVoid {
+            name: ADD_EVENT_LISTENER_NAME,
+            count: 2,
+        },
+    ]
+}
+
 // Adds the element to the document.
 fn place_code(number: u32) -> [Instruction; 5]
     requires { number < 100 }
@@ -474,7 +654,8 @@ fn put_element(
     put_all(code, &making_code(number, element))?;
     match element {
         Element::Label { .. } => put_all(code, &text_code(number))?,
-        Element::Button { .. } => {}
+        Element::Button { click: None, .. } => {}
+        Element::Button { click: Some(_), .. } => put_all(code, &registering_code(number))?,
     }
     put_all(code, &place_code(number))
 }
@@ -490,6 +671,24 @@ fn building_code(alloc: Global, elements: &[Element]) -> Result<Sequence<Instruc
     }
     code.push(Instruction::ReturnVoid)?;
     Ok(code)
+}
+
+// Traces the text of a handler.
+fn handler_code(number: u32) -> [Instruction; 4]
+    requires { number < 100 }
+    ensures { result ≡ handler_code number }
+{
+    [
+        Instruction::FindPropStrict { name: TRACE_NAME },
+        Instruction::PushString {
+            string: text_string(number),
+        },
+        Instruction::CallPropVoid {
+            name: TRACE_NAME,
+            count: 1,
+        },
+        Instruction::ReturnVoid,
+    ]
 }
 
 fn put_all(code: &mut Sequence<Instruction>, instructions: &[Instruction]) -> Result<(), NoMemory>
@@ -536,7 +735,40 @@ fn method_bodies(alloc: Global, elements: &[Element]) -> Result<Sequence<MethodB
     let building = building_code(alloc, elements)?;
     let building = assembled(alloc, building.as_slice())?;
     bodies.push(body(alloc, BUILDING, 4, 2, building))?;
+    put_handler_bodies(alloc, &mut bodies, 0, 0, elements)?;
     Ok(bodies)
+}
+
+// A body for each handler, where the first handler and the first element have these numbers.
+fn put_handler_bodies(
+    alloc: Global,
+    bodies: &mut Sequence<MethodBody>,
+    handler: u32,
+    number: u32,
+    elements: &[Element],
+) -> Result<(), NoMemory>
+    requires handlers { handler ≤ number }
+    requires elements { number + length elements.now ≤ 100 }
+    ensures { OnOk result (bodies.new ≡ bodies.old ++ each_handler handler_body handler number elements.now) }
+{
+    match elements {
+        [] => Ok(()),
+        [Element::Button { click: Some(_), .. }, rest @ ..] => {
+            bodies.push(handler_body(alloc, handler, number)?)?;
+            put_handler_bodies(alloc, bodies, handler + 1, number + 1, rest)
+        }
+        [_, rest @ ..] => put_handler_bodies(alloc, bodies, handler, number + 1, rest),
+    }
+}
+
+// The body of a handler.
+fn handler_body(alloc: Global, handler: u32, number: u32) -> Result<MethodBody, NoMemory>
+    requires handler { handler < 100 }
+    requires number { number < 100 }
+    ensures { IfOk result (λ body. body ≡ handler_body handler number) }
+{
+    let code = assembled(alloc, &handler_code(number))?;
+    Ok(body(alloc, handler_number(handler), 2, 2, code))
 }
 
 fn body(alloc: Global, method: u32, max_stack: u32, local_count: u32, code: Bytes) -> MethodBody

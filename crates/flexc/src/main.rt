@@ -3,8 +3,8 @@
 
 mod command;
 mod emit;
+mod meaning;
 mod script;
-mod source;
 #[cfg(test)]
 mod tests;
 mod words;

@@ -1,26 +1,130 @@
-// The lines of a script.
+// The script of user events.
 
-ghost use Rattle.std.specs.Prelude.{◌≡◌, ◌<◌, ◌≤◌, ◌==◌, [], ◌∷◌, length, IfSome, MatchOption};
+ghost use Rattle.std.specs.Prelude.{◌≡◌, ◌<◌, ◌≤◌, ◌==◌, [], ◌∷◌, length, Some, None, IfOk, IfSome, MatchOption};
 ghost use Rattle.std.specs.List.{position};
-ghost use Rattle.flexc.specs.Lines.{first_other, is_idle, lines, without_return};
+ghost use Rattle.avm2_machine.specs.declared.event.UserEvent.TheVariants as event;
+ghost use Rattle.flexc.specs.Lines.{Puts, Reads, behind, is_idle, line_says, lines, more, said, text_says, without_return};
 
-/// The number of the first line of a script, from 1, that is neither empty nor begins with `#`:
-/// `None` where there is none. Lines end at an LF, before which a CR is dropped; the last one may
-/// lack it. A line that isn't UTF-8 is none of these. This project's own.
-pub fn first_other_line(script: &[u8]) -> Option<u32>
+use avm2_machine::UserEvent;
+use flex_base::{NoMemory, Sequence, Text};
+use flex_front::is_name;
+use std::alloc::Global;
+
+/// Why a script isn't played.
+#[derive(Clone, Copy, Debug, PartialEq, Eq)]
+pub enum ScriptRefusal {
+    /// The number of its first line, from 1, that isn't known.
+    NotYetBuilt(u32),
+    /// Memory was refused.
+    NoMemory,
+}
+
+impl From<NoMemory> for ScriptRefusal {
+    ghost use Rattle.std.specs.Prelude.{◌≡◌};
+    ghost use Rattle.flexc.specs.declared.script.ScriptRefusal.{ScriptRefusal};
+
+    ghost from_gives = { λ _ refusal. refusal ≡ ScriptRefusal.NoMemory };
+
+    fn from(_error: NoMemory) -> ScriptRefusal {
+        ScriptRefusal::NoMemory
+    }
+}
+
+// What a line says.
+#[derive(Drop)]
+enum Line {
+    // Nothing.
+    Idle,
+    // What a user does.
+    Event(UserEvent),
+    // What isn't known.
+    Other,
+}
+
+/// What a user does by a script. Lines end at an LF, before which a CR is dropped; the last one may
+/// lack it. Empty lines and lines that begin with `#` are skipped; `click NAME` is a click, where
+/// NAME is 1 to 32 lower-case letters and no keyword of ActionScript. No other line is known, nor is
+/// one that isn't UTF-8. This project's own.
+pub fn read_script(alloc: Global, script: &[u8]) -> Result<Sequence<UserEvent>, ScriptRefusal>
     requires { length script.now ≤ 1048576 }
-    ensures { result ≡ first_other 1 (lines script.now) }
+    ensures { Reads script.now result }
 {
+    let mut events = Sequence::new(alloc);
     let mut rest = script;
     let mut number = 1u32;
     while let Some((line, others)) = first_line(rest) {
-        if !is_idle(line) {
-            return Some(number);
-        }
+        put_line(alloc, &mut events, line, number)?;
         rest = others;
         number += 1;
     }
-    if is_idle(rest) { None } else { Some(number) }
+    put_line(alloc, &mut events, rest, number)?;
+    Ok(events)
+}
+
+// Adds what a line of this number says.
+fn put_line(
+    alloc: Global,
+    events: &mut Sequence<UserEvent>,
+    line: &[u8],
+    number: u32,
+) -> Result<(), ScriptRefusal>
+    ensures { Puts (more number events.old (line_says line.now)) events.new result }
+{
+    match read_line(alloc, line)? {
+        Line::Idle => Ok(()),
+        Line::Event(event) => {
+            events.push(event)?;
+            Ok(())
+        }
+        Line::Other => Err(ScriptRefusal::NotYetBuilt(number)),
+    }
+}
+
+// What a line says.
+#[tactic(auto, using(crate::proofs::Lines::utf8_tests))]
+fn read_line(alloc: Global, line: &[u8]) -> Result<Line, NoMemory>
+    ensures { IfOk result (λ r. said r ≡ line_says line.now) }
+{
+    match str::from_utf8(line) {
+        Ok(text) => read_text(alloc, text),
+        Err(_) => Ok(Line::Other),
+    }
+}
+
+// What a line says that is a text.
+fn read_text(alloc: Global, line: &str) -> Result<Line, NoMemory>
+    ensures { IfOk result (λ r. said r ≡ text_says line.now) }
+{
+    if is_idle(line) {
+        return Ok(Line::Idle);
+    }
+    match behind(line, "click ") {
+        Some(name) if is_name(name) => Ok(Line::Event(click(alloc, name, line)?)),
+        _ => Ok(Line::Other),
+    }
+}
+
+// Whether a line is empty, or begins with `#`.
+fn is_idle(line: &str) -> bool
+    ensures { result ≡ is_idle line.now }
+{
+    line.is_empty() || line.starts_with('#')
+}
+
+// What stands behind a text's beginning.
+fn behind<'a>(text: &'a str, beginning: &str) -> Option<&'a str>
+    ensures { MatchOption result (behind beginning.now text.now ≡ None) (λ rest. behind beginning.now text.now ≡ Some rest.now) }
+{
+    text.strip_prefix(beginning)
+}
+
+// A click on what this names, by this line.
+fn click(alloc: Global, name: &str, line: &str) -> Result<UserEvent, NoMemory>
+    ensures { IfOk result (λ e. e ≡ event.Click name.now line.now) }
+{
+    let name = Text::make(alloc, name)?;
+    let line = Text::make(alloc, line)?;
+    Ok(UserEvent::Click { name, line })
 }
 
 // The first line, where it ends at an LF, and what stands behind it.
@@ -46,17 +150,5 @@ fn without_return(line: &[u8]) -> &[u8]
     match line {
         [before @ .., b'\r'] => before,
         _ => line,
-    }
-}
-
-// Whether nothing is to be done for a line.
-#[tactic(auto, using(crate::proofs::Lines::utf8_tests))]
-fn is_idle(line: &[u8]) -> bool
-    ensures { result ≡ is_idle line.now }
-{
-    match line {
-        [] => true,
-        [b'#', ..] => str::from_utf8(line).is_ok(),
-        _ => false,
     }
 }

@@ -64,6 +64,17 @@ impl Left {
         Ok(())
     }
 
+    // Fails unless the command ended with this status and printed this at last.
+    fn ends(&self, status: u8, ending: &str) -> Result<(), &'static str> {
+        if self.status != status {
+            return Err("another status");
+        }
+        if !self.sink.taken().as_slice().ends_with(ending.as_bytes()) {
+            return Err("another ending");
+        }
+        Ok(())
+    }
+
     // Fails unless the command ended with this status, printed this text and made no file.
     fn refuses(&self, status: u8, printed: &str) -> Result<(), &'static str> {
         if self.files.file("hello.swf").is_some() {
@@ -222,8 +233,13 @@ fn elements_are_made_in_order(rt: HostRuntime) -> Result<(), Fail> {
     Ok(())
 }
 
-// The words of a play with so many turns.
-fn perform_turns(alloc: Global, turns: &str) -> Result<Left, NoMemory> {
+// The command with so many turns, over a source with these elements and a script.
+fn perform_turns(
+    alloc: Global,
+    turns: &str,
+    elements: &str,
+    script: &[u8],
+) -> Result<Left, NoMemory> {
     let words = [
         "run",
         "--script",
@@ -234,19 +250,19 @@ fn perform_turns(alloc: Global, turns: &str) -> Result<Left, NoMemory> {
         turns,
         "Main.mxml",
     ];
-    perform(alloc, &words, "Main.mxml", LABEL, b"")
+    perform(alloc, &words, "Main.mxml", elements, script)
 }
 
 #[test]
 fn turns_are_spent(rt: HostRuntime) -> Result<(), Fail> {
     for turns in ["0", "1", "0000000001"] {
-        perform_turns(rt.alloc(), turns)?.shows(6, "new 1 Main\nturns\n")?;
+        perform_turns(rt.alloc(), turns, LABEL, b"")?.shows(6, "new 1 Main\nturns\n")?;
     }
     for turns in ["2", "1000000000"] {
-        perform_turns(rt.alloc(), turns)?.shows(0, TRACE)?;
+        perform_turns(rt.alloc(), turns, LABEL, b"")?.shows(0, TRACE)?;
     }
     for turns in ["1000000001", "00000000002", "", "-1", "2x"] {
-        perform_turns(rt.alloc(), turns)?.refuses(2, BAD_USAGE)?;
+        perform_turns(rt.alloc(), turns, LABEL, b"")?.refuses(2, BAD_USAGE)?;
     }
     Ok(())
 }
@@ -255,7 +271,8 @@ fn turns_are_spent(rt: HostRuntime) -> Result<(), Fail> {
 fn other_sources_are_not_yet_built(rt: HostRuntime) -> Result<(), Fail> {
     let cases = [
         "<s:Label id=\"greeting\" text=\"Hi\" />",
-        "<s:Button id=\"go\" click=\"trace('on')\"/>",
+        "<s:Button id=\"go\" click=\"trace(on)\"/>",
+        "<s:Button id=\"go\" click=\"\"/>",
     ];
     for elements in cases {
         let left = perform(rt.alloc(), WORDS, "Main.mxml", elements, b"x")?;
@@ -266,7 +283,7 @@ fn other_sources_are_not_yet_built(rt: HostRuntime) -> Result<(), Fail> {
 
 #[test]
 fn lines_that_say_nothing_are_skipped(rt: HostRuntime) -> Result<(), Fail> {
-    let scripts: [&[u8]; 4] = [b"\n", b"\r\n\n", b"#", b"#click a\r\n\n# \xc3\xa9\n"];
+    let scripts: [&[u8]; 4] = [b"\n", b"\r\n\n", b"#", b"#click greeting\r\n\n# \xc3\xa9\n"];
     for script in scripts {
         let left = perform(rt.alloc(), WORDS, "Main.mxml", LABEL, script)?;
         left.shows(0, TRACE)?;
@@ -276,14 +293,111 @@ fn lines_that_say_nothing_are_skipped(rt: HostRuntime) -> Result<(), Fail> {
 
 #[test]
 fn other_lines_are_not_yet_played(rt: HostRuntime) -> Result<(), Fail> {
-    let first: [&[u8]; 5] = [b"click a", b" ", b"\r", b"#\xff\n", b" #\n"];
+    let first: [&[u8]; 12] = [
+        b"press a",
+        b" ",
+        b"\r",
+        b"#\xff\n",
+        b" #\n",
+        b"click",
+        b"click ",
+        b"click  a",
+        b"click a ",
+        b"click if",
+        b"click a.b\n",
+        b"click a\r",
+    ];
     for script in first {
         let left = perform(rt.alloc(), WORDS, "Main.mxml", LABEL, script)?;
         left.refuses(4, SCRIPT_NOT_YET)?;
     }
-    let third = b"#a\n\r\nclick a\nclick a\n";
-    let left = perform(rt.alloc(), WORDS, "Main.mxml", LABEL, third)?;
-    left.refuses(4, "script:3: not yet built\n")?;
+    let fourth = b"#a\n\r\nclick a\nclick A\nclick B\n";
+    let left = perform(rt.alloc(), WORDS, "Main.mxml", LABEL, fourth)?;
+    left.refuses(4, "script:4: not yet built\n")?;
+    Ok(())
+}
+
+const GREETER: &str = "<s:Button id=\"go\" click=\"trace('hi')\"/>";
+
+const TWO_CLICKS: &[u8] = b"click go\nclick no\n";
+
+#[test]
+fn a_click_is_heard_and_another_missed(rt: HostRuntime) -> Result<(), Fail> {
+    let left = perform(rt.alloc(), WORDS, "Main.mxml", GREETER, TWO_CLICKS)?;
+    left.shows(
+        0,
+        "new 1 Main\nnew 2 Button\nset 1.go #2\nadd 1 2 0\nuser click go\nevent 2 click\nhear 2 click 2\ntrace \"hi\"\nuser click no\nmiss no\nend\n",
+    )?;
+    Ok(())
+}
+
+#[test]
+fn a_handler_takes_a_turn(rt: HostRuntime) -> Result<(), Fail> {
+    let left = perform_turns(rt.alloc(), "2", GREETER, TWO_CLICKS)?;
+    left.shows(
+        6,
+        "new 1 Main\nnew 2 Button\nset 1.go #2\nadd 1 2 0\nuser click go\nevent 2 click\nturns\n",
+    )?;
+    let left = perform_turns(rt.alloc(), "3", GREETER, TWO_CLICKS)?;
+    left.shows(
+        0,
+        "new 1 Main\nnew 2 Button\nset 1.go #2\nadd 1 2 0\nuser click go\nevent 2 click\nhear 2 click 2\ntrace \"hi\"\nuser click no\nmiss no\nend\n",
+    )?;
+    Ok(())
+}
+
+#[test]
+fn each_element_has_its_own_handler(rt: HostRuntime) -> Result<(), Fail> {
+    let elements =
+        "<s:Button id=\"a\" click=\"trace('one')\"/><s:Label id=\"b\" text=\"\"/><s:Button id=\"c\"/><s:Button id=\"building\" click=\"trace('two')\"/>";
+    let script = b"# each of them\r\nclick building\r\nclick b\nclick c\n\nclick a";
+    let left = perform(rt.alloc(), WORDS, "Main.mxml", elements, script)?;
+    left.shows(
+        0,
+        "new 1 Main\nnew 2 Button\nset 1.a #2\nadd 1 2 0\nnew 3 Label\nset 1.b #3\nadd 1 3 1\nnew 4 Button\nset 1.c #4\nadd 1 4 2\nnew 5 Button\nset 1.building #5\nadd 1 5 3\nuser click building\nevent 5 click\nhear 5 click 2\ntrace \"two\"\nuser click b\nevent 3 click\nuser click c\nevent 4 click\nuser click a\nevent 2 click\nhear 2 click 2\ntrace \"one\"\nend\n",
+    )?;
+    Ok(())
+}
+
+#[test]
+fn properties_that_are_no_ids_are_missed(rt: HostRuntime) -> Result<(), Fail> {
+    let left = perform(
+        rt.alloc(),
+        WORDS,
+        "Main.mxml",
+        "",
+        b"click visible\nclick parent\n",
+    )?;
+    left.shows(
+        0,
+        "new 1 Main\nuser click visible\nmiss visible\nuser click parent\nmiss parent\nend\n",
+    )?;
+    Ok(())
+}
+
+// So many clicks on the same element.
+fn clicks(alloc: Global, count: usize) -> Result<Bytes, NoMemory> {
+    let mut script = Bytes::new(alloc);
+    for _ in 0..count {
+        script.extend(b"click a\n")?;
+    }
+    Ok(script)
+}
+
+// The main object costs 17 cells and the Button 16, so that 62,497 events of 16 cells have their
+// place among 1,000,000.
+#[test]
+fn the_cells_hold_so_many_events(rt: HostRuntime) -> Result<(), Fail> {
+    let cases = [
+        (62_497, 0, "user click a\nevent 2 click\nend\n"),
+        (62_498, 1, "event 2 click\nuser click a\nstop Cells\n"),
+    ];
+    for (count, status, ending) in cases {
+        let source = source(rt.alloc(), "<s:Button id=\"a\"/>")?;
+        let script = clicks(rt.alloc(), count)?;
+        let list = files(rt.alloc(), "Main.mxml", source, script)?;
+        perform_on(rt.alloc(), WORDS, list, FAIR)?.ends(status, ending)?;
+    }
     Ok(())
 }
 

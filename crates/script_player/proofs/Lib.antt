@@ -3,8 +3,10 @@ pub mod AbcRead
 pub mod AbcRelated
 pub mod Ends
 pub mod Files
+pub mod Lifted
 pub mod Lists
 pub mod Played
+pub mod Ran
 pub mod Shown
 pub mod SwfRead
 pub mod SwfReadBack

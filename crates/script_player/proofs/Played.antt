@@ -5,13 +5,14 @@ use Rattle.abc_format.specs.declared.records.Abc.{Abc}
 use Rattle.flex_base.specs.Line.{outcome_line}
 use Rattle.flex_base.specs.declared.outcome.Outcome.{Outcome}
 use Rattle.flex_edge.specs.Outside.{Rose, SinkState}
+use Rattle.avm2_machine.specs.declared.event.UserEvent.{UserEvent}
 use Rattle.avm2_machine.specs.declared.machine.Machine.{Machine}
 use Rattle.flex_edge.specs.declared.output.WriteRefusal.{WriteRefusal}
 use Rattle.flex_edge.specs.declared.output.WriteRefusal.TheVariants as write
 use Rattle.script_player.specs.AbcReader.{read_abc}
 use Rattle.script_player.specs.Playable.{IsPlayable}
 use Rattle.script_player.specs.Playing.{boot, ComesTo, HasTrace}
-use Rattle.script_player.specs.Printed.{HasShown, Shows, HasPrinted, PrintsText, Plays}
+use Rattle.script_player.specs.Printed.{HasShown, HasPrinted, PrintsText, Plays}
 use Rattle.script_player.specs.SwfReader.{read_swf}
 use Rattle.script_player.specs.Trace.{Story, lines, text, with_end}
 use Rattle.flex_edge.specs.Whole.{HasTaken, Prints}
@@ -33,15 +34,10 @@ printed_alike P Q old new (Ok outcome) to from s = record { story = s.story; is 
 printed_alike P Q old new (Err write.Failed) to from s = record { tells = s.tells; faults = s.faults; told = λ t story trace. s.told t story (from story trace) }
 printed_alike P Q old new (Err write.NoMemory) to from s = record { tells = s.tells; faults = s.faults; told = λ t story trace. s.told t story (from story trace) }
 
-module _ (abc : Abc) (main : List ℕ) (from : Machine) where
-  -- the records weren't all printed
-  pub part_printed : (refusal : WriteRefusal) (old new : SinkState) → Shows abc main from old (Err refusal) new → PrintsText (ComesTo abc main [] from) old (Err refusal) new
-  part_printed write.Failed old new s = s
-  part_printed write.NoMemory old new s = s
-
+module _ (abc : Abc) (main : List ℕ) (events : List UserEvent) (from : Machine) where
   -- the line of the outcome was printed too
-  pub whole_printed : (outcome : Outcome) (old mid new : SinkState) → HasShown abc main from outcome old mid → Prints mid (with_end (outcome_line outcome)) (Ok tt) new
-      → HasPrinted (ComesTo abc main [] from) outcome old new
+  pub whole_printed : (outcome : Outcome) (old mid new : SinkState) → HasShown abc main events from outcome old mid → Prints mid (with_end (outcome_line outcome)) (Ok tt) new
+      → HasPrinted (ComesTo abc main events from) outcome old new
   whole_printed outcome old mid new s p = record {
     story = s.story;
     is = s.is;
@@ -56,10 +52,10 @@ module _ (abc : Abc) (main : List ℕ) (from : Machine) where
   }
 
   -- a first part of the line of the outcome is the end of a first part of the text
-  line_part : (outcome : Outcome) (old mid new : SinkState) (s : HasShown abc main from outcome old mid) → (mid.taken ≡ old.taken ++ lines s.story.records)
-      → HasTaken (with_end (outcome_line outcome)) mid new → (story : Story) → ComesTo abc main [] from story → HasTaken (text story) old new
+  line_part : (outcome : Outcome) (old mid new : SinkState) (s : HasShown abc main events from outcome old mid) → (mid.taken ≡ old.taken ++ lines s.story.records)
+      → HasTaken (with_end (outcome_line outcome)) mid new → (story : Story) → ComesTo abc main events from story → HasTaken (text story) old new
   line_part outcome old mid new s before taken story comes =
-      subst (λ x. HasTaken (text x) old new) (one_story abc main [] from s.story story s.comes comes)
+      subst (λ x. HasTaken (text x) old new) (one_story abc main events from s.story story s.comes comes)
       (record {
         part = lines s.story.records ++ taken.part;
         left = taken.left;
@@ -67,8 +63,8 @@ module _ (abc : Abc) (main : List ℕ) (from : Machine) where
         taken = taken.taken ∙ ap (λ l. l ++ taken.part) before ∙ append_assoc old.taken (lines s.story.records) taken.part;
       })
 
-  pub end_printed : (refusal : WriteRefusal) (outcome : Outcome) (old mid new : SinkState) → HasShown abc main from outcome old mid
-      → Prints mid (with_end (outcome_line outcome)) (Err refusal) new → PrintsText (ComesTo abc main [] from) old (Err refusal) new
+  pub end_printed : (refusal : WriteRefusal) (outcome : Outcome) (old mid new : SinkState) → HasShown abc main events from outcome old mid
+      → Prints mid (with_end (outcome_line outcome)) (Err refusal) new → PrintsText (ComesTo abc main events from) old (Err refusal) new
   end_printed write.Failed outcome old mid new s p = record {
     tells = p.tells ∙ s.printed.tells;
     faults = subst (λ n. Rose n new.write_faults) s.printed.faults p.faults;
@@ -101,10 +97,10 @@ module _ (swf : List ℕ) (f : IsPlayable swf) where
     program_is_there none = none_is _ (sym (program_is_read swf f) ∙ ap read_abc code_is ∙ none)
 
     -- what was read of the file was played
-    pub file_played : (abc : Abc) (turns : ℕ) (result : Result Outcome WriteRefusal) (old new : SinkState) → read_abc code ≡ Some abc
-        → PrintsText (ComesTo abc main [] (boot abc turns)) old result new → Plays swf turns old result new
-    file_played abc turns result old new program =
+    pub file_played : (abc : Abc) (events : List UserEvent) (turns : ℕ) (result : Result Outcome WriteRefusal) (old new : SinkState) → read_abc code ≡ Some abc
+        → PrintsText (ComesTo abc main events (boot abc turns)) old result new → Plays swf events turns old result new
+    file_played abc events turns result old new program =
         let abc_is : f.abc ≡ abc = some_is _ _ (sym (program_is_read swf f) ∙ ap read_abc code_is ∙ program) in
-        printed_alike (ComesTo abc main [] (boot abc turns)) (HasTrace swf [] turns) old new result
-        (λ story c. record { file = f; comes = subst (λ a. ComesTo a f.main [] (boot a turns) story) (sym abc_is) (subst (λ m. ComesTo abc m [] (boot abc turns) story) (sym main_is) c) })
-        (λ story t. subst (λ a. ComesTo a main [] (boot a turns) story) abc_is (subst (λ m. ComesTo f.abc m [] (boot f.abc turns) story) main_is (comes_alike swf [] turns story t.file f t.comes)))
+        printed_alike (ComesTo abc main events (boot abc turns)) (HasTrace swf events turns) old new result
+        (λ story c. record { file = f; comes = subst (λ a. ComesTo a f.main events (boot a turns) story) (sym abc_is) (subst (λ m. ComesTo abc m events (boot abc turns) story) (sym main_is) c) })
+        (λ story t. subst (λ a. ComesTo a main events (boot a turns) story) abc_is (subst (λ m. ComesTo f.abc m events (boot f.abc turns) story) main_is (comes_alike swf events turns story t.file f t.comes)))

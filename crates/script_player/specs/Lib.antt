@@ -3,7 +3,6 @@ pub mod AbcReader
 pub mod Playable
 pub mod Playing
 pub mod Printed
-pub mod Script
 pub mod SwfLaws
 pub mod SwfReader
 pub mod Trace

@@ -5,10 +5,11 @@ use Rattle.flex_base.specs.declared.outcome.Outcome.{Outcome}
 use Rattle.flex_base.specs.declared.record.TraceItem.{TraceItem}
 use Rattle.flex_edge.specs.Outside.{Rose, SinkState}
 use Rattle.flex_edge.specs.Calls.{SinkChanges}
+use Rattle.avm2_machine.specs.declared.event.UserEvent.{UserEvent}
 use Rattle.avm2_machine.specs.declared.machine.Machine.{Machine}
 use Rattle.flex_edge.specs.declared.output.WriteRefusal.{WriteRefusal}
 use Rattle.flex_edge.specs.declared.output.WriteRefusal.TheVariants as write
-use Rattle.script_player.specs.Playing.{ComesTo, HasTrace}
+use Rattle.script_player.specs.Playing.{first, run, ComesTo, HasTrace}
 use Rattle.script_player.specs.Trace.{Story, record_line, lines, text}
 use Rattle.flex_edge.specs.Whole.{HasTaken}
 
@@ -17,20 +18,37 @@ abbrev pub item_lines : Option TraceItem → List ℕ
 item_lines None = []
 item_lines (Some item) = record_line item
 
--- the play from a machine on came to its end, and a line for each record was printed
-pub record HasShown (abc : Abc) (main : List ℕ) (from : Machine) (outcome : Outcome) (old new : SinkState) : Type 0 where
+-- the machine made some steps by itself, and a line for each record was printed
+pub record HasRun (abc : Abc) (main : List ℕ) (from to : Machine) (old new : SinkState) : Type 0 where
+  pub steps : ℕ
+  pub machine : to ≡ (run abc main steps (first from)).machine
+  pub printed : SinkChanges old new (new.write_faults ≡ old.write_faults) (new.taken ≡ old.taken ++ lines (run abc main steps (first from)).records)
+
+-- a first part of the lines for the records of some steps was printed
+pub record HasRunPart (abc : Abc) (main : List ℕ) (from : Machine) (old new : SinkState) : Type 0 where
+  pub steps : ℕ
+  pub taken : HasTaken (lines (run abc main steps (first from)).records) old new
+
+-- what steps of the machine by itself print; after a refusal a first part of the lines
+abbrev pub Runs : Abc → List ℕ → Machine → SinkState → Result (Unit {0}) WriteRefusal → Machine → SinkState → Type 0
+Runs abc main from old (Ok done) to new = HasRun abc main from to old new
+Runs abc main from old (Err write.Failed) to new = SinkChanges old new (Rose old.write_faults new.write_faults) (HasRunPart abc main from old new)
+Runs abc main from old (Err write.NoMemory) to new = SinkChanges old new (new.write_faults ≡ old.write_faults) (HasRunPart abc main from old new)
+
+-- the play of a script from a machine on came to its end, and a line for each record was printed
+pub record HasShown (abc : Abc) (main : List ℕ) (events : List UserEvent) (from : Machine) (outcome : Outcome) (old new : SinkState) : Type 0 where
   pub story : Story
   pub is : story.outcome ≡ outcome
-  pub comes : ComesTo abc main [] from story
+  pub comes : ComesTo abc main events from story
   pub printed : SinkChanges old new (new.write_faults ≡ old.write_faults) (new.taken ≡ old.taken ++ lines story.records)
 
--- what the play from a machine on prints, before the line of its outcome; after a refusal a first part of the text
-abbrev pub Shows : Abc → List ℕ → Machine → SinkState → Result Outcome WriteRefusal → SinkState → Type 0
-Shows abc main from old (Ok outcome) new = HasShown abc main from outcome old new
-Shows abc main from old (Err write.Failed) new =
-    SinkChanges old new (Rose old.write_faults new.write_faults) ((story : Story) → ComesTo abc main [] from story → HasTaken (text story) old new)
-Shows abc main from old (Err write.NoMemory) new =
-    SinkChanges old new (new.write_faults ≡ old.write_faults) ((story : Story) → ComesTo abc main [] from story → HasTaken (text story) old new)
+-- what the play of a script from a machine on prints, before the line of its outcome; after a refusal a first part of the text
+abbrev pub Shows : Abc → List ℕ → List UserEvent → Machine → SinkState → Result Outcome WriteRefusal → SinkState → Type 0
+Shows abc main events from old (Ok outcome) new = HasShown abc main events from outcome old new
+Shows abc main events from old (Err write.Failed) new =
+    SinkChanges old new (Rose old.write_faults new.write_faults) ((story : Story) → ComesTo abc main events from story → HasTaken (text story) old new)
+Shows abc main events from old (Err write.NoMemory) new =
+    SinkChanges old new (new.write_faults ≡ old.write_faults) ((story : Story) → ComesTo abc main events from story → HasTaken (text story) old new)
 
 -- the text of such a story was printed whole
 pub record HasPrinted (P : Story → Type 0) (outcome : Outcome) (old new : SinkState) : Type 0 where
@@ -47,9 +65,9 @@ PrintsText P old (Err write.Failed) new =
 PrintsText P old (Err write.NoMemory) new =
     SinkChanges old new (new.write_faults ≡ old.write_faults) ((story : Story) → P story → HasTaken (text story) old new)
 
--- what the play of the bytes with so many turns and an empty script prints
-abbrev pub HasPlayed : List ℕ → ℕ → Outcome → SinkState → SinkState → Type 0
-HasPlayed swf turns outcome old new = HasPrinted (HasTrace swf [] turns) outcome old new
+-- what the play of the bytes with a script and so many turns prints
+abbrev pub HasPlayed : List ℕ → List UserEvent → ℕ → Outcome → SinkState → SinkState → Type 0
+HasPlayed swf events turns outcome old new = HasPrinted (HasTrace swf events turns) outcome old new
 
-abbrev pub Plays : List ℕ → ℕ → SinkState → Result Outcome WriteRefusal → SinkState → Type 0
-Plays swf turns old result new = PrintsText (HasTrace swf [] turns) old result new
+abbrev pub Plays : List ℕ → List UserEvent → ℕ → SinkState → Result Outcome WriteRefusal → SinkState → Type 0
+Plays swf events turns old result new = PrintsText (HasTrace swf events turns) old result new

@@ -1,37 +1,39 @@
 // The playing of a SWF file.
 
-ghost use Rattle.std.specs.Prelude.{◌≡◌, ◌<◌, [], None, OnOk};
+ghost use Rattle.std.specs.Prelude.{◌≡◌, ◌≢◌, ◌<◌, [], None, OnOk};
 ghost use Rattle.avm2_machine.specs.Machine.{result_of, step};
 ghost use Rattle.avm2_machine.specs.Progress.{remaining};
 ghost use Rattle.script_player.specs.Playable.{IsPlayable};
 ghost use Rattle.script_player.specs.Playing.{ComesTo, boot};
-ghost use Rattle.script_player.specs.Printed.{Plays, PrintsText, Shows, item_lines};
+ghost use Rattle.script_player.specs.Printed.{Plays, PrintsText, Runs, Shows, item_lines};
 ghost use Rattle.script_player.specs.Trace.{record_line, with_end};
 ghost use Rattle.flex_edge.specs.Whole.{Prints};
 
 use crate::abc_reader::{ReadFault, read_abc};
 use crate::swf_reader::read_swf;
 use abc_format::Abc;
-use avm2_machine::Machine;
+use avm2_machine::{Machine, UserEvent};
 use flex_base::{Bytes, Outcome, Text, TraceItem, line_of};
 use flex_edge::{Sink, WriteRefusal, print};
 use std::alloc::Global;
 
-/// Plays a SWF file with so many turns and an empty script, and prints the trace.
+/// Plays a SWF file with a script and so many turns, and prints the trace: from the load on, and
+/// then through each line of the script once the machine is idle.
 pub fn play<O: Sink>(
     alloc: Global,
     swf: &[u8],
+    script: &[UserEvent],
     turns: u32,
     out: &mut O,
 ) -> Result<Outcome, WriteRefusal>
     requires { IsPlayable swf.now }
-    ensures { Plays swf.now turns (O.state out.old) result (O.state out.new) }
+    ensures { Plays swf.now script.now turns (O.state out.old) result (O.state out.new) }
 {
     let Some(parts) = read_swf(swf) else {
         unreachable!();
     };
     match read_abc(alloc, parts.abc) {
-        Ok(abc) => play_program(alloc, &abc, parts.main, turns, out),
+        Ok(abc) => play_program(alloc, &abc, parts.main, script, turns, out),
         Err(ReadFault::Bad) => unreachable!(),
         Err(ReadFault::NoMemory) => Err(WriteRefusal::NoMemory),
     }
@@ -42,34 +44,56 @@ fn play_program<O: Sink>(
     alloc: Global,
     abc: &Abc,
     main: &str,
+    script: &[UserEvent],
     turns: u32,
     out: &mut O,
 ) -> Result<Outcome, WriteRefusal>
-    ensures { PrintsText (ComesTo abc.now main.now [] (boot abc.now turns)) (O.state out.old) result (O.state out.new) }
+    ensures { PrintsText (ComesTo abc.now main.now script.now (boot abc.now turns)) (O.state out.old) result (O.state out.new) }
 {
     let main = Text::make(alloc, main)?;
     let mut machine = Machine::load(alloc, abc.classes.len(), turns)?;
-    let outcome = run(alloc, abc, &main, &mut machine, out)?;
+    let outcome = play_script(alloc, abc, &main, script, &mut machine, out)?;
     print_line(alloc, outcome.line().as_bytes(), out)?;
     Ok(outcome)
 }
 
-// Steps until the play is over, and prints the records.
+// Plays the lines of the script, each once the machine is idle, and prints the records.
+fn play_script<O: Sink>(
+    alloc: Global,
+    abc: &Abc,
+    main: &Text,
+    script: &[UserEvent],
+    machine: &mut Machine,
+    out: &mut O,
+) -> Result<Outcome, WriteRefusal>
+    ensures { Shows abc.now main.now script.now machine.old (O.state out.old) result (O.state out.new) }
+{
+    for event in script {
+        run(alloc, abc, main, machine, out)?;
+        if let Some(outcome) = machine.outcome {
+            return Ok(outcome);
+        }
+        machine.start(alloc, event)?;
+    }
+    run(alloc, abc, main, machine, out)?;
+    Ok(machine.outcome.unwrap_or(Outcome::Ended))
+}
+
+// Steps until the machine has come to rest, and prints the records.
 fn run<O: Sink>(
     alloc: Global,
     abc: &Abc,
     main: &Text,
     machine: &mut Machine,
     out: &mut O,
-) -> Result<Outcome, WriteRefusal>
-    ensures { Shows abc.now main.now machine.old (O.state out.old) result (O.state out.new) }
+) -> Result<(), WriteRefusal>
+    ensures printed { Runs abc.now main.now machine.old (O.state out.old) result machine.new (O.state out.new) }
+    ensures rests { OnOk result (result_of machine.new ≢ None) }
 {
-    loop {
-        if let Some(outcome) = machine.result() {
-            return Ok(outcome);
-        }
+    while machine.result().is_none() {
         advance(alloc, abc, main, machine, out)?;
     }
+    Ok(())
 }
 
 // One step, whose record is printed, if it makes one.

@@ -1,4 +1,4 @@
-use Rattle.std.proofs.Common.{rules, ◌≡◌, [], None, Some}
+use Rattle.std.proofs.Common.{rules, ◌≡◌, None, Some}
 use Rattle.script_player.specs.AbcReader.{read_abc}
 use Rattle.script_player.specs.Playing.{HasTrace}
 use Rattle.script_player.proofs.Played.{file_is_there, program_is_there, file_played, nothing_printed}
@@ -15,7 +15,7 @@ unreachable-requires-in-Err-Bad g c =
 pub returns-in-Ok : goal.returns-in-Ok
 returns-in-Ok g c =
     let program : read_abc c.in-Some.parts.abc.now ≡ Some c.in-Ok.abc = search rules in
-    file_played c.args.swf.now c.requires c.in-Some.parts.main.now c.in-Some.parts.abc.now c.in-Some.ensures c.in-Ok.abc c.args.turns _ _ _ program c.play_program.ensures
+    file_played c.args.swf.now c.requires c.in-Some.parts.main.now c.in-Some.parts.abc.now c.in-Some.ensures c.in-Ok.abc c.args.script.now c.args.turns _ _ _ program c.play_program.ensures
 
 pub returns-in-Err-NoMemory : goal.returns-in-Err-NoMemory
-returns-in-Err-NoMemory g c = nothing_printed (HasTrace c.args.swf.now [] c.args.turns) (g.O.Sink.state c.args.out.now)
+returns-in-Err-NoMemory g c = nothing_printed (HasTrace c.args.swf.now c.args.script.now c.args.turns) (g.O.Sink.state c.args.out.now)

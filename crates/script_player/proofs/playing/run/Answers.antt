@@ -1,18 +1,15 @@
-use Rattle.std.proofs.Common.{rules, ◌≡◌, None, Err, sym, ◌∙◌}
+use Rattle.std.proofs.Common.{rules, ◌≡◌, None, Err}
 use Rattle.avm2_machine.specs.Machine.{result_of}
-use Rattle.script_player.proofs.Shown.{showing_goes_on, showing_ends, showing_stops}
+use Rattle.script_player.proofs.Ran.{run_goes_on, run_stops}
 use Rattle.script_player.proofs.playing.run.Goals as goal
 
-pub returns-in-Some : goal.returns-in-Some
-returns-in-Some g c = showing_ends _ _ _ _ c.in-Some.outcome _ _ c.loop-outcome.invariant (sym c.result.ensures ∙ c.in-Some.is)
+pub loop-alloc-preserved : goal.loop-alloc-preserved
+loop-alloc-preserved g c =
+    let still : result_of c.loop-alloc.machine ≡ None = search rules in
+    run_goes_on _ _ _ _ _ _ _ _ c.loop-alloc.invariant still c.in_ok-advance.ensures.moved c.in_ok-advance.ensures.printed
 
-pub loop-outcome-preserved : goal.loop-outcome-preserved
-loop-outcome-preserved g c =
-    let still : result_of c.loop-outcome.machine ≡ None = search rules in
-    showing_goes_on _ _ _ _ _ _ _ _ c.loop-outcome.invariant still c.in_ok-advance.ensures.moved c.in_ok-advance.ensures.printed
-
-pub returns-in_err-advance : goal.returns-in_err-advance
-returns-in_err-advance g c =
-    let still : result_of c.loop-outcome.machine ≡ None = search rules in
+pub returns-in_err-advance-clause-printed : goal.returns-in_err-advance-clause-printed
+returns-in_err-advance-clause-printed g c =
+    let still : result_of c.loop-alloc.machine ≡ None = search rules in
     let is : c.from_residual.result ≡ Err c.in_err-advance.field-0.0 = search rules in
-    rw is (showing_stops _ _ _ _ _ _ _ c.in_err-advance.field-0.0 c.loop-outcome.invariant still c.in_err-advance.ensures.printed)
+    rw is (run_stops _ _ _ _ _ _ _ _ c.in_err-advance.field-0.0 c.loop-alloc.invariant still c.in_err-advance.ensures.printed)

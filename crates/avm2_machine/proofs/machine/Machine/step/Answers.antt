@@ -10,5 +10,5 @@ returns-in-None-clause-lowers c =
 
 pub returns-in-Some-clause-lowers : goal.returns-in-Some-clause-lowers
 returns-in-Some-clause-lowers c =
-    let is : IfOk c.execute.result (λ item. moved c.execute.new.self item ≡ step c.args.abc.now c.args.main.now c.args.self.now) = search rules in
+    let is : IfOk c.go_on.result (λ item. moved c.go_on.new.self item ≡ step c.args.abc.now c.args.main.now c.args.self.now) = search rules in
     moved_lowers c.args.abc.now c.args.main.now c.args.self.now _ _ is

@@ -1,9 +1,9 @@
 use Rattle.std.proofs.Common.{rules, ◌≡◌, Ok, Err, refl, subst}
-use Rattle.flexc.specs.Source.{IsNotBuilt}
+use Rattle.flex_front.specs.Source.{IsNotBuilt}
 use Rattle.flex_edge.specs.Whole.{ReadsFile}
 use Rattle.flexc.specs.Work.{read_failure}
 use Rattle.flexc.proofs.Works.{script_unread, is_refused}
-use Rattle.flexc.proofs.command.read_document.Goals as goal
+use Rattle.flexc.proofs.command.read_job.Goals as goal
 
 pub returns-in-Err-read_file-clause-read : goal.returns-in-Err-read_file-clause-read
 returns-in-Err-read_file-clause-read g c =
@@ -15,6 +15,6 @@ returns-in-Err-read_file-clause-read g c =
 pub returns-in-Err-NotYetBuilt-clause-read : goal.returns-in-Err-NotYetBuilt-clause-read
 returns-in-Err-NotYetBuilt-clause-read g c =
     let first : ReadsFile (g.F.Files.state c.args.files.now) c.args.run.main.now (Ok c.in-Ok.source) (g.F.Files.state c.read_file.new.files) = search rules in
-    let second : ReadsFile (g.F.Files.state c.read_file.new.files) c.args.run.script.now (Ok c.in-Ok-read_file.script) (g.F.Files.state c.read_file-2.new.files) = search rules in
+    let second : ReadsFile (g.F.Files.state c.read_file.new.files) c.args.run.script.now (Ok c.in-Ok-read_file.commands) (g.F.Files.state c.read_file-2.new.files) = search rules in
     let refused : IsNotBuilt c.args.run.main.now c.in-Ok.source = subst (IsNotBuilt c.args.run.main.now) c.as_slice.ensures (c.in-Err-NotYetBuilt.ensures.refused c.in-Err-NotYetBuilt.field-0-is) in
-    (refl, is_refused _ _ c.in-Ok.source c.in-Ok-read_file.script _ _ _ first second refused)
+    (refl, is_refused _ _ c.in-Ok.source c.in-Ok-read_file.commands _ _ _ first second refused)
