@@ -291,23 +291,24 @@ fn lines_that_say_nothing_are_skipped(rt: HostRuntime) -> Result<(), Fail> {
     Ok(())
 }
 
+const OTHER_LINES: &[&[u8]] = &[
+    b"press a",
+    b" ",
+    b"\r",
+    b"#\xff\n",
+    b" #\n",
+    b"click",
+    b"click ",
+    b"click  a",
+    b"click a ",
+    b"click if",
+    b"click a.b\n",
+    b"click a\r",
+];
+
 #[test]
 fn other_lines_are_not_yet_played(rt: HostRuntime) -> Result<(), Fail> {
-    let first: [&[u8]; 12] = [
-        b"press a",
-        b" ",
-        b"\r",
-        b"#\xff\n",
-        b" #\n",
-        b"click",
-        b"click ",
-        b"click  a",
-        b"click a ",
-        b"click if",
-        b"click a.b\n",
-        b"click a\r",
-    ];
-    for script in first {
+    for script in OTHER_LINES {
         let left = perform(rt.alloc(), WORDS, "Main.mxml", LABEL, script)?;
         left.refuses(4, SCRIPT_NOT_YET)?;
     }
@@ -375,29 +376,23 @@ fn properties_that_are_no_ids_are_missed(rt: HostRuntime) -> Result<(), Fail> {
     Ok(())
 }
 
-// So many clicks on the same element.
-fn clicks(alloc: Global, count: usize) -> Result<Bytes, NoMemory> {
+// The command over a source with a Button, and a script of so many clicks on it.
+fn perform_clicks(alloc: Global, count: usize) -> Result<Left, NoMemory> {
+    let source = source(alloc, "<s:Button id=\"a\"/>")?;
     let mut script = Bytes::new(alloc);
     for _ in 0..count {
         script.extend(b"click a\n")?;
     }
-    Ok(script)
+    let list = files(alloc, "Main.mxml", source, script)?;
+    perform_on(alloc, WORDS, list, FAIR)
 }
 
 // The main object costs 17 cells and the Button 16, so that 62,497 events of 16 cells have their
 // place among 1,000,000.
 #[test]
 fn the_cells_hold_so_many_events(rt: HostRuntime) -> Result<(), Fail> {
-    let cases = [
-        (62_497, 0, "user click a\nevent 2 click\nend\n"),
-        (62_498, 1, "event 2 click\nuser click a\nstop Cells\n"),
-    ];
-    for (count, status, ending) in cases {
-        let source = source(rt.alloc(), "<s:Button id=\"a\"/>")?;
-        let script = clicks(rt.alloc(), count)?;
-        let list = files(rt.alloc(), "Main.mxml", source, script)?;
-        perform_on(rt.alloc(), WORDS, list, FAIR)?.ends(status, ending)?;
-    }
+    perform_clicks(rt.alloc(), 62_497)?.ends(0, "user click a\nevent 2 click\nend\n")?;
+    perform_clicks(rt.alloc(), 62_498)?.ends(1, "event 2 click\nuser click a\nstop Cells\n")?;
     Ok(())
 }
 
