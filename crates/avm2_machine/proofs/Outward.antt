@@ -3,7 +3,7 @@ use Rattle.std.proofs.Common.{◌≡◌, ℕ, suc, ◌+◌, ◌-◌, ◌<◌, Li
 use Rattle.std.specs.Prelude.{◌||◌}
 use Rattle.std.specs.List.{list_any}
 use Rattle.flex_base.specs.declared.value.ObjId.{ObjId}
-use Rattle.avm2_machine.specs.Events.{outward}
+use Rattle.flex_base.specs.Events.{outward}
 
 -- one object, and those outside it
 outward_some : (parent : ObjId → Option ObjId) (n k : ℕ) (o : ObjId) → k < n → outward parent (n - k) (Some o) ≡ o ∷ outward parent (n - (k + 1)) (parent o)

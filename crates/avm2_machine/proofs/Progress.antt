@@ -22,9 +22,9 @@ use Rattle.flex_base.specs.declared.value.ObjId.{ObjId}
 use Rattle.flex_base.specs.declared.value.Value.{Value}
 use Rattle.flex_base.specs.declared.value.Value.TheVariants as value
 use Rattle.avm2_machine.specs.declared.catalog.NativeClass.{NativeClass}
-use Rattle.avm2_machine.specs.declared.dispatch.Arrival.{Arrival}
+use Rattle.flex_base.specs.declared.event.Arrival.{Arrival}
 use Rattle.avm2_machine.specs.declared.dispatch.Call.{Call}
-use Rattle.avm2_machine.specs.declared.dispatch.Click.{Click}
+use Rattle.avm2_machine.specs.declared.dispatch.Sending.{Sending}
 use Rattle.avm2_machine.specs.declared.dispatch.Dispatch.{Dispatch}
 use Rattle.avm2_machine.specs.declared.frame.CodeFrame.{CodeFrame}
 use Rattle.avm2_machine.specs.declared.frame.Frame.{Frame}
@@ -43,8 +43,9 @@ use Rattle.avm2_machine.specs.declared.stage.Stage.{Stage}
 use Rattle.avm2_code.specs.Reading.{Reading, instruction_at}
 use Rattle.avm2_code.proofs.Spelled.{read_stands, standing-bounds}
 use Rattle.avm2_machine.specs.Machine.{Moved, moved, Unmade, IsMade, and_then, makes, opens, with_frame, with_operand, ended, ends, faults, silent, recorded, goes_on, pushes_found, returns_void, supers, construct_super, makes_native, constructs, construct_prop, adds, places, listens, traces, enters_found, class_method, calls_method, calls, makes_class, new_class, writes, writes_slot, writes_public, sets_property, gets_method, gets_property, inits_property, sets_local, act, executes, opens_body, with_turn, enters_body, entered, sends, hears, dispatches, continues, begins_main, makes_main, main_named, main_of, inits_script, loads, steps, step, idle_with, idle, result_of}
-use Rattle.avm2_machine.specs.Names.{Name, entry, string_at, name_at, native_at, class_name, is_name, holder}
-use Rattle.avm2_machine.specs.Events.{phase_number, click}
+use Rattle.flex_base.specs.Lists.{entry}
+use Rattle.avm2_machine.specs.Names.{Name, string_at, name_at, native_at, class_name, is_name, holder}
+use Rattle.flex_base.specs.Events.{phase_number, click}
 use Rattle.avm2_machine.specs.Progress.{total_code, longest, times, unmade, code_length, frame_left, left_of, frames_left, load_left, work_left, left_with, remaining}
 use Rattle.avm2_machine.specs.Stage.{object_at, property, is_of, native_slots, too_many_cells, next_object, with_object, with_property, next_place, children_of, with_child, with_listener}
 use Rattle.avm2_machine.specs.Tables.{fetch, fetch_in, body_of, public_at, declared_onto, has_class_trait, hears_clicks}
@@ -359,7 +360,7 @@ loads_lowers abc main load.Main m e h =
 loads_lowers abc main load.Done m e h = absurd (cc)
 
 -- the event of a click is made, and its dispatch begins
-sends_le : (abc : Abc) (c : Click) (m : Machine) → remaining abc (sends c m).machine ≤ suc (suc (length c.nodes) + work_left abc m)
+sends_le : (abc : Abc) (c : Sending) (m : Machine) → remaining abc (sends c m).machine ≤ suc (suc (length c.nodes) + work_left abc m)
 sends_le abc c m =
     makes_le abc (suc (suc (length c.nodes) + work_left abc m)) class.MouseEvent [] 0 m
     (λ e m1. recorded (Sent c.target click) (opens (frame.Dispatch (record { event = e; kind = click; calls = []; nodes = c.nodes })) m1))
@@ -386,7 +387,7 @@ continues_lowers : (abc : Abc) (f : Frame) (m : Machine) → remaining abc (cont
 continues_lowers abc (frame.Code f) m = executes_lowers abc (fetch abc f) f m (fits_fetch (slice_get abc.method_bodies f.body) f.pc)
 continues_lowers abc (frame.User line) m = omega (arith, left_le m.outcome (work_left abc m))
 continues_lowers abc (frame.Miss name) m = omega (arith, left_le m.outcome (work_left abc m))
-continues_lowers abc (frame.Click c) m = omega (arith, sends_le abc c m)
+continues_lowers abc (frame.Sending c) m = omega (arith, sends_le abc c m)
 continues_lowers abc (frame.Dispatch d) m = omega (arith, dispatches_le abc d.calls d.nodes d m refl)
 
 -- a step of a play whose outcome is open

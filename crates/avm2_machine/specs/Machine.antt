@@ -1,5 +1,5 @@
 -- The machine: one step, on the machine between two steps.
-use Rattle.std.specs.Prelude.{◌≡◌, ◌≢◌, ℕ, zero, suc, ◌+◌, ◌-◌, List, [], ◌∷◌, length, map, Bool, true, false, if◌then◌else◌, nat_lt, ◌==◌, Option, Some, None, slice_get, slice_set, option_map, replicate, codes}
+use Rattle.std.specs.Prelude.{◌≡◌, ◌≢◌, ℕ, zero, suc, ◌+◌, ◌-◌, List, [], ◌∷◌, length, map, Bool, true, false, if◌then◌else◌, nat_lt, ◌==◌, ◌||◌, Option, Some, None, slice_get, slice_set, option_map, replicate, codes}
 use Rattle.std.specs.List.{list_any}
 use Rattle.std.specs.Option.{option_or}
 use Rattle.std.specs.Str.{bytes_eq}
@@ -7,24 +7,24 @@ use Rattle.abc_format.specs.declared.records.Abc.{Abc}
 use Rattle.abc_format.specs.declared.records.InstanceInfo.{InstanceInfo}
 use Rattle.abc_format.specs.declared.records.ScriptInfo.{ScriptInfo}
 use Rattle.abc_format.specs.declared.records.ClassInfo.{ClassInfo}
-use Rattle.flex_base.specs.Value.{same}
+use Rattle.flex_base.specs.Value.{same, ref_of, is_object}
 use Rattle.flex_base.specs.declared.outcome.MachineFault.{MachineFault}
 use Rattle.flex_base.specs.declared.outcome.MachineFault.TheVariants.{NoName, WrongKind, WrongCount, NotHere}
 use Rattle.flex_base.specs.declared.outcome.Outcome.{Outcome}
 use Rattle.flex_base.specs.declared.outcome.Outcome.TheVariants.{Ended, Stopped, TurnsSpent, Fault}
-use Rattle.flex_base.specs.declared.outcome.Stop.TheVariants.{Depth, Cells}
+use Rattle.flex_base.specs.declared.outcome.Stop.TheVariants.{Depth, Cells, UnknownState}
 use Rattle.flex_base.specs.declared.record.TraceItem.{TraceItem}
 use Rattle.flex_base.specs.declared.record.TraceItem.TheVariants.{Made, Written, Added, Sent, Heard, Traced, User, Missed}
 use Rattle.flex_base.specs.declared.value.ObjId.{ObjId}
 use Rattle.flex_base.specs.declared.value.Value.{Value}
 use Rattle.flex_base.specs.declared.value.Value.TheVariants as value
 use Rattle.avm2_machine.specs.declared.catalog.NativeClass.{NativeClass}
-use Rattle.avm2_machine.specs.declared.dispatch.Arrival.{Arrival}
+use Rattle.flex_base.specs.declared.event.Arrival.{Arrival}
 use Rattle.avm2_machine.specs.declared.dispatch.Call.{Call}
-use Rattle.avm2_machine.specs.declared.dispatch.Click.{Click}
+use Rattle.avm2_machine.specs.declared.dispatch.Sending.{Sending}
 use Rattle.avm2_machine.specs.declared.dispatch.Dispatch.{Dispatch}
-use Rattle.avm2_machine.specs.declared.event.UserEvent.{UserEvent}
-use Rattle.avm2_machine.specs.declared.event.UserEvent.TheVariants as event
+use Rattle.flex_base.specs.declared.event.UserEvent.{UserEvent}
+use Rattle.flex_base.specs.declared.event.UserEvent.TheVariants as event
 use Rattle.avm2_machine.specs.declared.frame.CodeFrame.{CodeFrame}
 use Rattle.avm2_machine.specs.declared.frame.Frame.{Frame}
 use Rattle.avm2_machine.specs.declared.frame.Frame.TheVariants as frame
@@ -41,9 +41,10 @@ use Rattle.avm2_machine.specs.declared.stage.Object.{Object}
 use Rattle.avm2_machine.specs.declared.stage.Registration.{Registration}
 use Rattle.avm2_machine.specs.declared.stage.Slot.{Slot}
 use Rattle.avm2_machine.specs.declared.stage.Stage.{Stage}
-use Rattle.avm2_machine.specs.Events.{arrivals, hearing, phase_number, click}
-use Rattle.avm2_machine.specs.Names.{Name, entry, string_at, name_at, native_at, class_name, is_name, holder}
-use Rattle.avm2_machine.specs.Stage.{empty_stage, object_at, property, is_of, native_slots, too_many_cells, next_object, with_object, with_property, next_place, children_of, with_child, with_listener, outer, listeners}
+use Rattle.flex_base.specs.Events.{arrivals, hearing, path_text, phase_number, click}
+use Rattle.flex_base.specs.Lists.{entry}
+use Rattle.avm2_machine.specs.Names.{Name, string_at, name_at, native_at, class_name, is_name, holder}
+use Rattle.avm2_machine.specs.Stage.{empty_stage, object_at, property, is_of, native_slots, too_many_cells, next_object, with_object, with_property, next_place, children_of, with_child, with_listener, outer, listeners, walked}
 use Rattle.avm2_machine.specs.Tables.{fetch, body_of, first_locals, public_at, declared_onto, method_named, has_class_trait, hears_clicks}
 
 -- the machine before the load of a file with so many classes
@@ -191,39 +192,38 @@ sets_property name _ f m = faults WrongKind m
 abbrev pub returns_void : CodeFrame → Machine → Moved
 returns_void f m = silent (if f.is_activity then record m { level = m.level - 1 } else m)
 
--- what a property holds, if it is an object
-abbrev pub ref_of : Value → Option ObjId
-ref_of (value.Ref o) = Some o
-ref_of _ = None
-
-abbrev pub held : Option Slot → Option ObjId
-held None = None
-held (Some slot) = ref_of slot.value
-
-abbrev pub is_object : ObjId → ObjId → Bool
-is_object a b = a.0 == b.0
-
--- an object that has the main object as an ancestor is a component that is shown
+-- the main object, and an object that has it as an ancestor, is a component that is shown
 abbrev pub shown : Stage → ObjId → Option ObjId → Option ObjId
 shown s main None = None
-shown s main (Some o) = if list_any (is_object main) (outer s o) then Some o else None
+shown s main (Some o) = if is_object main o || list_any (is_object main) (outer s o) then Some o else None
 
--- the component that a name reaches from the main object
-abbrev pub reached : Stage → Option ObjId → List ℕ → Option ObjId
-reached s None name = None
-reached s (Some main) name = shown s main (held (property s main name))
+-- the component that a path of names reaches from the main object
+abbrev pub reached : Stage → Option ObjId → List (List ℕ) → Option ObjId
+reached s None path = None
+reached s (Some main) path = shown s main (walked s (Some main) path)
 
 -- a click that reached a component, or that missed
-abbrev pub clicks : Stage → List ℕ → Option ObjId → Frame
-clicks s name None = frame.Miss name
-clicks s name (Some o) = frame.Click (record { target = o; nodes = arrivals o (outer s o) })
+abbrev pub clicks : Stage → List (List ℕ) → Option ObjId → Frame
+clicks s path None = frame.Miss (path_text path)
+clicks s path (Some o) = frame.Sending (record { target = o; nodes = arrivals o (outer s o) })
+
+-- what a line of the script is to do once its record was made: no component takes a text that is typed, and no document has states
+abbrev pub line_frame : UserEvent → Machine → Frame
+line_frame (event.Click path line) m = clicks m.stage path (reached m.stage m.main path)
+line_frame (event.Write path text line) m = frame.Miss (path_text path)
+line_frame (event.State name line) m = frame.UnknownState
+
+abbrev pub line_of_event : UserEvent → List ℕ
+line_of_event (event.Click path line) = line
+line_of_event (event.Write path text line) = line
+line_of_event (event.State name line) = line
 
 -- a line of the script is begun
 abbrev pub begins : UserEvent → Machine → Machine
-begins (event.Click name line) m = opens (frame.User line) (opens (clicks m.stage name (reached m.stage m.main name)) m)
+begins e m = opens (frame.User (line_of_event e)) (opens (line_frame e m) m)
 
 -- the event of a click is made, and its dispatch begins
-abbrev pub sends : Click → Machine → Moved
+abbrev pub sends : Sending → Machine → Moved
 sends c m =
     and_then (makes class.MouseEvent [] 0 m)
     (λ e m1. recorded (Sent c.target click) (opens (frame.Dispatch (record { event = e; kind = click; calls = []; nodes = c.nodes })) m1))
@@ -366,8 +366,9 @@ module _ (abc : Abc) where
   abbrev pub continues : Frame → Machine → Moved
   continues (frame.Code f) m = executes (fetch abc f) f m
   continues (frame.User line) m = recorded (User line) m
-  continues (frame.Miss name) m = recorded (Missed name) m
-  continues (frame.Click c) m = sends c m
+  continues (frame.Miss path) m = recorded (Missed path) m
+  continues frame.UnknownState m = ends (Stopped UnknownState) m
+  continues (frame.Sending c) m = sends c m
   continues (frame.Dispatch d) m = dispatches d.calls d.nodes d m
 
   -- the constructor of the main object, which was made, is an activity

@@ -10,6 +10,7 @@ use Rattle.avm2_machine.specs.declared.catalog.NativeClass.{NativeClass}
 use Rattle.avm2_machine.specs.declared.catalog.NativeClass.TheVariants.{Application, Label, Button}
 use Rattle.avm2_machine.specs.declared.frame.Operand.{Operand}
 use Rattle.avm2_machine.specs.declared.frame.Operand.TheVariants as operand
+use Rattle.flex_base.specs.Lists.{entry}
 
 -- a qualified name: the text of its namespace, and its own text
 pub record Name : Type 0 where
@@ -19,11 +20,6 @@ pub record Name : Type 0 where
 -- the texts of a name that the code has
 abbrev pub texts_of : Borrowed.Name → Name
 texts_of n = record { space = n.space.now; local = n.local.now }
-
--- an entry of a table of the pool, which counts from 1
-abbrev pub entry : {A : Type 0} → List A → ℕ → Option A
-entry items zero = None
-entry items (suc n) = slice_get items n
 
 abbrev pub string_at : Abc → ℕ → Option (List ℕ)
 string_at abc zero = Some []

@@ -40,8 +40,9 @@ frame_left abc f = suc (code_length (slice_get abc.method_bodies f.body) - f.pc)
 abbrev pub left_of : Abc → Frame → ℕ
 left_of abc (frame.Code f) = frame_left abc f
 left_of abc (frame.User line) = 1
-left_of abc (frame.Miss name) = 1
-left_of abc (frame.Click c) = suc (suc (length c.nodes))
+left_of abc (frame.Miss path) = 1
+left_of abc frame.UnknownState = 1
+left_of abc (frame.Sending c) = suc (suc (length c.nodes))
 left_of abc (frame.Dispatch d) = suc (length d.nodes)
 
 abbrev pub frames_left : Abc → List Frame → ℕ

@@ -8,7 +8,9 @@ use Rattle.flex_base.specs.declared.outcome.Stop.TheVariants as stop
 use Rattle.flex_base.specs.declared.value.ObjId.{ObjId}
 use Rattle.flex_base.specs.declared.value.Value.{Value}
 use Rattle.flex_base.specs.declared.value.Value.TheVariants as value
-use Rattle.avm2_machine.specs.Events.{ancestors}
+use Rattle.flex_base.specs.Events.{ancestors}
+use Rattle.flex_base.specs.Lists.{entry, changed_entry, one_later}
+use Rattle.flex_base.specs.Value.{ref_of}
 use Rattle.avm2_machine.specs.declared.catalog.NativeClass.{NativeClass}
 use Rattle.avm2_machine.specs.declared.catalog.NativeClass.TheVariants as native
 use Rattle.avm2_machine.specs.declared.stage.Class.{Class}
@@ -56,17 +58,8 @@ with_object class slots declared s =
       cells = s.cells + cost declared;
     }
 
--- the object of a number, which counts from 1
-abbrev pub numbered : List Object → ℕ → Option Object
-numbered objects zero = None
-numbered objects (suc n) = slice_get objects n
-
 abbrev pub object_at : Stage → ObjId → Option Object
-object_at s o = numbered s.objects o.0
-
-abbrev pub one_later : Option ℕ → Option ℕ
-one_later None = None
-one_later (Some n) = Some (suc n)
+object_at s o = entry s.objects o.0
 
 -- the place of the first property of a name
 abbrev pub place_of : List ℕ → List Slot → Option ℕ
@@ -85,29 +78,30 @@ slot_of name (Some object) = slot_named name object.slots
 abbrev pub property : Stage → ObjId → List ℕ → Option Slot
 property s o name = slot_of name (object_at s o)
 
+-- what a property holds, if it is an object
+abbrev pub held : Option Slot → Option ObjId
+held None = None
+held (Some slot) = ref_of slot.value
+
+-- the object at the end of a path of names: each is of a property that holds an object
+abbrev pub walked : Stage → Option ObjId → List (List ℕ) → Option ObjId
+walked s o [] = o
+walked s None (name ∷ names) = None
+walked s (Some o) (name ∷ names) = walked s (held (property s o name)) names
+
 -- the properties with a new value under a name
 abbrev pub with_value : List ℕ → Value → List Slot → List Slot
 with_value name v [] = []
 with_value name v (s ∷ slots) = if bytes_eq s.name name then record s { value = v } ∷ slots else s ∷ with_value name v slots
 
--- the objects with one of them changed
-abbrev pub changed_at : (Object → Object) → List Object → ℕ → List Object
-changed_at f [] n = []
-changed_at f (o ∷ objects) zero = f o ∷ objects
-changed_at f (o ∷ objects) (suc n) = o ∷ changed_at f objects n
-
-abbrev pub changed_number : (Object → Object) → List Object → ℕ → List Object
-changed_number f objects zero = objects
-changed_number f objects (suc n) = changed_at f objects n
-
 abbrev pub with_property : ObjId → List ℕ → Value → Stage → Stage
-with_property o name v s = record s { objects = changed_number (λ object. record object { slots = with_value name v object.slots }) s.objects o.0 }
+with_property o name v s = record s { objects = changed_entry (λ object. record object { slots = with_value name v object.slots }) s.objects o.0 }
 
 abbrev pub with_last : ObjId → ObjId → Stage → Stage
-with_last container child s = record s { objects = changed_number (λ object. record object { children = object.children ++ child ∷ [] }) s.objects container.0 }
+with_last container child s = record s { objects = changed_entry (λ object. record object { children = object.children ++ child ∷ [] }) s.objects container.0 }
 
 abbrev pub with_parent : ObjId → ObjId → Stage → Stage
-with_parent container child s = record s { objects = changed_number (λ object. record object { parent = Some container }) s.objects child.0 }
+with_parent container child s = record s { objects = changed_entry (λ object. record object { parent = Some container }) s.objects child.0 }
 
 -- with a child behind the others of a container, which is its parent now
 abbrev pub with_child : ObjId → ObjId → Stage → Stage
@@ -115,7 +109,7 @@ with_child container child s = with_parent container child (with_last container 
 
 -- with a listener behind those that an object has
 abbrev pub with_listener : ObjId → Registration → Stage → Stage
-with_listener o listener s = record s { objects = changed_number (λ object. record object { listeners = object.listeners ++ listener ∷ [] }) s.objects o.0 }
+with_listener o listener s = record s { objects = changed_entry (λ object. record object { listeners = object.listeners ++ listener ∷ [] }) s.objects o.0 }
 
 -- whether a value is of a type, as far as the emitted code needs it
 abbrev pub has_class : Class → Option Object → Bool

@@ -20,6 +20,7 @@ use Rattle.avm2_machine.specs.declared.stage.Class.TheVariants as class
 use Rattle.avm2_machine.specs.declared.stage.PropertyType.TheVariants as type
 use Rattle.avm2_machine.specs.declared.stage.Slot.{Slot}
 use Rattle.avm2_machine.specs.Names.{Name, name_at, native_at, same_name}
+use Rattle.flex_base.specs.Lists.{one_later}
 
 abbrev pub fetch_in : Option MethodBody → ℕ → Option (Instruction × ℕ)
 fetch_in None pc = None
@@ -28,10 +29,6 @@ fetch_in (Some body) pc = result_ok (instruction_at body.code pc)
 -- the next instruction of a frame, and the place behind it
 abbrev pub fetch : Abc → CodeFrame → Option (Instruction × ℕ)
 fetch abc frame = fetch_in (slice_get abc.method_bodies frame.body) frame.pc
-
-abbrev pub one_later : Option ℕ → Option ℕ
-one_later None = None
-one_later (Some n) = Some (suc n)
 
 -- the number of the first body of a method
 abbrev pub body_in : ℕ → List MethodBody → Option ℕ

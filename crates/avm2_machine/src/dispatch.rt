@@ -1,57 +1,28 @@
 // The lines of a script that are played, and the dispatch of their events. ActionScript 3, event
 // flow.
 
-ghost use Rattle.std.specs.Prelude.{◌≡◌, ◌++◌, ◌∷◌, map, reverse, IfOk, OnOk, option_copied};
+ghost use Rattle.std.specs.Prelude.{◌≡◌, ◌++◌, ◌∷◌, map, reverse, IfOk, OnOk};
 ghost use Rattle.std.specs.List.{filter};
 ghost use Rattle.std.specs.Str.{bytes_eq};
-ghost use Rattle.avm2_machine.specs.Events.{arrival, arrivals, hearing, phase_number};
-ghost use Rattle.avm2_machine.specs.Machine.{moved, begins, reached, held, sends, call_at, dispatches};
+ghost use Rattle.flex_base.specs.Events.{arrival, arrivals, hearing, phase_number};
+ghost use Rattle.avm2_machine.specs.Machine.{moved, begins, clicks, reached, sends, call_at, dispatches};
 ghost use Rattle.avm2_machine.specs.Stage.{outer, listeners};
-ghost use Rattle.avm2_machine.specs.declared.dispatch.Phase.TheVariants.{Capture, Bubble};
+ghost use Rattle.flex_base.specs.declared.event.Phase.TheVariants.{Capture, Bubble};
 
-use crate::event::UserEvent;
 use crate::frame::{Frame, Operand};
 use crate::machine::Machine;
 use crate::stack::Stack;
-use crate::stage::{Class, Registration, Slot, Stage};
+use crate::stage::{Class, Registration, Stage};
 use crate::tables::hears_clicks;
 use abc_format::Abc;
-use flex_base::{MachineFault, NoMemory, ObjId, Sequence, Text, TraceItem, Value};
+use flex_base::{
+    Arrival, MachineFault, Names, NoMemory, ObjId, Phase, Sequence, Text, TraceItem, UserEvent, Value,
+    path_text,
+};
 use std::alloc::Global;
 
 /// The type of the event of a mouse click.
 const CLICK: &str = "click";
-
-/// A phase of a dispatch.
-#[derive(Clone, Copy, Debug, PartialEq, Eq)]
-pub enum Phase {
-    /// From the outermost ancestor to the target's parent.
-    Capture,
-    /// At the target.
-    Target,
-    /// From the target's parent outward.
-    Bubble,
-}
-
-impl Phase {
-    /// The number of the phase: 1, 2 or 3.
-    pub fn number(self) -> u8
-        ensures { result ≡ phase_number self }
-    {
-        match self {
-            Phase::Capture => 1,
-            Phase::Target => 2,
-            Phase::Bubble => 3,
-        }
-    }
-}
-
-/// A node at which an event arrives.
-#[derive(Clone, Copy, Debug, PartialEq, Eq)]
-pub struct Arrival {
-    pub node: ObjId,
-    pub phase: Phase,
-}
 
 /// A listener that is to be called: a method of an object, at the node where the event is.
 #[derive(Clone, Copy, Debug, PartialEq, Eq)]
@@ -62,9 +33,9 @@ pub struct Call {
     pub method: u32,
 }
 
-/// A click that is to be sent to a component.
+/// The event of a click that is to be made and sent to a component.
 #[derive(Drop)]
-pub struct Click {
+pub struct Sending {
     pub target: ObjId,
     /// Where its event will arrive, one after another.
     pub nodes: Stack<Arrival>,
@@ -88,26 +59,36 @@ impl Machine {
     pub fn start(&mut self, alloc: Global, event: &UserEvent) -> Result<(), NoMemory>
         ensures { OnOk result (self.new ≡ begins event.now self.old) }
     {
-        let UserEvent::Click { name, line } = event;
-        let frame = match self.reached(name.as_str()) {
-            None => Frame::Miss(name.clone()?),
-            Some(target) => {
-                let nodes = arrivals(alloc, &self.stage, target)?;
-                Frame::Click(Click { target, nodes })
-            }
+        let (frame, line) = match event {
+            UserEvent::Click(path, line) => (self.click(alloc, path)?, line),
+            UserEvent::Write(path, _, line) => (Frame::Miss(path_text(alloc, path)?), line),
+            UserEvent::State(_, line) => (Frame::UnknownState, line),
         };
         self.frames.push(frame)?;
         self.frames.push(Frame::User(line.clone()?))
     }
 
-    // The component that a name reaches from the main object: the value of a public property, which
-    // has the main object as an ancestor.
-    fn reached(&self, name: &str) -> Option<ObjId>
-        ensures { result ≡ reached self.now.stage self.now.main name.now }
+    // A click on what a path reaches.
+    fn click(&self, alloc: Global, path: &Names) -> Result<Frame, NoMemory>
+        ensures { IfOk result (λ frame. frame ≡ clicks self.now.stage path.now (reached self.now.stage self.now.main path.now)) }
+    {
+        match self.reached(path.as_slice()) {
+            None => Ok(Frame::Miss(path_text(alloc, path)?)),
+            Some(target) => {
+                let nodes = arrivals(alloc, &self.stage, target)?;
+                Ok(Frame::Sending(Sending { target, nodes }))
+            }
+        }
+    }
+
+    // The component that a path reaches from the main object: it is the main object or has it as an
+    // ancestor.
+    fn reached(&self, path: &[Text]) -> Option<ObjId>
+        ensures { result ≡ reached self.now.stage self.now.main path.now }
     {
         let main = self.main?;
-        let target = held(self.stage.property(main, name))?;
-        if self.stage.is_inside(target, main) {
+        let target = self.stage.walk(main, path)?;
+        if main.0 == target.0 || self.stage.is_inside(target, main) {
             Some(target)
         } else {
             None
@@ -118,11 +99,11 @@ impl Machine {
     pub(crate) fn send(
         &mut self,
         alloc: Global,
-        click: Click,
+        sending: Sending,
     ) -> Result<Option<TraceItem>, NoMemory>
-        ensures { IfOk result (λ item. moved self.new item ≡ sends click self.old) }
+        ensures { IfOk result (λ item. moved self.new item ≡ sends sending self.old) }
     {
-        let Click { target, nodes } = click;
+        let Sending { target, nodes } = sending;
         let none = Sequence::new(alloc);
         let Some(event) = self.make(alloc, Class::MouseEvent, none, 0)? else {
             return Ok(None);
@@ -182,16 +163,6 @@ impl Machine {
         given.push(Operand::Value(Value::Ref(call.object)))?;
         given.push(Operand::Value(Value::Ref(event)))?;
         self.enter(alloc, abc, call.method, given, Some(heard))
-    }
-}
-
-// What a property holds, if it is an object.
-fn held(slot: Option<&Slot>) -> Option<ObjId>
-    ensures { result ≡ held (option_copied slot.entry) }
-{
-    match slot?.value {
-        Value::Ref(object) => Some(object),
-        _ => None,
     }
 }
 

@@ -2,7 +2,7 @@
 
 ghost use Rattle.std.specs.Prelude.{◌≡◌, IfOk};
 
-use crate::dispatch::{Click, Dispatch};
+use crate::dispatch::{Dispatch, Sending};
 use crate::stack::Stack;
 use crate::stage::Class;
 use flex_base::{NoMemory, Sequence, Text, Value};
@@ -52,8 +52,10 @@ pub enum Frame {
     Code(CodeFrame),
     /// A line of the script that begins.
     User(Text),
-    /// A line of the script that reaches no component, by the name in it.
+    /// A line of the script that reaches no component, by the path in it.
     Miss(Text),
-    Click(Click),
+    /// A line of the script that asks for a state, which the main object hasn't.
+    UnknownState,
+    Sending(Sending),
     Dispatch(Dispatch),
 }

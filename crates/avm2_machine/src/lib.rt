@@ -3,7 +3,6 @@
 
 mod catalog;
 mod dispatch;
-mod event;
 mod execute;
 mod frame;
 mod machine;
@@ -13,8 +12,7 @@ mod stage;
 mod tables;
 
 pub use catalog::NativeClass;
-pub use dispatch::{Arrival, Call, Click, Dispatch, Phase};
-pub use event::UserEvent;
+pub use dispatch::{Call, Dispatch, Sending};
 pub use frame::{CodeFrame, Frame, Operand};
 pub use machine::{Load, Machine};
 pub use stack::Stack;

@@ -114,7 +114,11 @@ impl Machine {
             Frame::Code(frame) => self.execute(alloc, abc, frame),
             Frame::User(line) => Ok(Some(TraceItem::User { line })),
             Frame::Miss(path) => Ok(Some(TraceItem::Missed { path })),
-            Frame::Click(click) => self.send(alloc, click),
+            Frame::UnknownState => {
+                self.end(alloc, Outcome::Stopped(Stop::UnknownState));
+                Ok(None)
+            }
+            Frame::Sending(sending) => self.send(alloc, sending),
             Frame::Dispatch(dispatch) => self.dispatch(alloc, abc, dispatch),
         }
     }

@@ -1,7 +1,8 @@
 // The names of an ABC's pool.
 
 ghost use Rattle.std.specs.Prelude.{◌≡◌, None, Some, MatchOption, option_copied, if◌then◌else◌};
-ghost use Rattle.avm2_machine.specs.Names.{entry, string_at, name_at, native_at, texts_of, same_name, is_name, holder};
+ghost use Rattle.flex_base.specs.Lists.{entry};
+ghost use Rattle.avm2_machine.specs.Names.{string_at, name_at, native_at, texts_of, same_name, is_name, holder};
 ghost use Rattle.avm2_machine.specs.declared.frame.Operand.TheVariants.{Natives};
 
 use crate::catalog::{NativeClass, class_named};

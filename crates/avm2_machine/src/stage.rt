@@ -1,9 +1,9 @@
 // The objects of a play: their properties, their children, and the cells that they cost.
 
-ghost use Rattle.std.specs.Prelude.{◌≡◌, ◌<◌, ◌+◌, min, IsSome, IfSome, IfOk, OnOk, option_copied, length};
+ghost use Rattle.std.specs.Prelude.{◌≡◌, ◌<◌, ◌+◌, min, Some, IsSome, IfSome, IfOk, OnOk, option_copied, length};
 ghost use Rattle.std.specs.List.{list_any};
-ghost use Rattle.avm2_machine.specs.Machine.{is_object};
-ghost use Rattle.avm2_machine.specs.Stage.{MakesObject, Places, with_property, with_listener, with_last, with_parent, next_place, children_of, empty_stage, object_at, parent, outer, listeners, property, place_of, slot_named, is_of, native_slots, same_native, same_class, text_slot, too_many_cells, cost};
+ghost use Rattle.flex_base.specs.Value.{is_object};
+ghost use Rattle.avm2_machine.specs.Stage.{MakesObject, Places, with_property, with_listener, with_last, with_parent, next_place, children_of, empty_stage, object_at, parent, outer, listeners, property, place_of, slot_named, is_of, held, walked, native_slots, same_native, same_class, text_slot, too_many_cells, cost};
 
 use crate::catalog::NativeClass;
 use flex_base::{NoMemory, ObjId, RunRefusal, Sequence, Stop, Text, Value};
@@ -147,6 +147,18 @@ impl Stage {
         ensures { option_copied result ≡ property self.now object name.now }
     {
         slot_named(self.object(object)?.slots.as_slice(), name)
+    }
+
+    /// The object at the end of a path of names from this one: each name is of a property that holds
+    /// an object.
+    pub fn walk(&self, from: ObjId, path: &[Text]) -> Option<ObjId>
+        ensures { result ≡ walked self.now (Some from) path.now }
+    {
+        let mut object = from;
+        for name in path {
+            object = held(self.property(object, name.as_str()))?;
+        }
+        Some(object)
     }
 
     /// Whether a value is of a type.
@@ -367,4 +379,14 @@ fn text_slot(alloc: Global, name: &str) -> Result<Slot, NoMemory>
         kind: PropertyType::Text,
         value: Value::Text(Text::make(alloc, "")?),
     })
+}
+
+// What a property holds, if it is an object.
+fn held(slot: Option<&Slot>) -> Option<ObjId>
+    ensures { result ≡ held (option_copied slot.entry) }
+{
+    match slot?.value {
+        Value::Ref(object) => Some(object),
+        _ => None,
+    }
 }

@@ -2,4 +2,4 @@ pub mod Names
 pub mod Marks
 pub mod Elements
 pub mod Lists
-pub mod Documents
+pub mod DocumentLaws

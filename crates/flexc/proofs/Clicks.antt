@@ -7,34 +7,37 @@ use Rattle.abc_format.specs.declared.records.Abc.{Abc}
 use Rattle.flex_base.specs.declared.record.TraceItem.{TraceItem}
 use Rattle.flex_base.specs.declared.record.TraceItem.TheVariants.{Sent, Heard, Traced, User, Missed}
 use Rattle.flex_base.specs.declared.outcome.MachineFault.TheVariants.{NotHere}
+use Rattle.flex_base.specs.declared.outcome.Outcome.TheVariants.{Stopped}
+use Rattle.flex_base.specs.declared.outcome.Stop.TheVariants.{UnknownState}
 use Rattle.flex_base.specs.declared.value.ObjId.{ObjId}
 use Rattle.flex_base.specs.declared.value.Value.TheVariants as value
 use Rattle.flex_front.specs.declared.document.Element.{Element}
 use Rattle.flex_front.specs.declared.document.Element.TheVariants as element
 use Rattle.avm2_code.specs.declared.instruction.Instruction.TheVariants.{FindPropStrict, PushString, CallPropVoid}
-use Rattle.avm2_machine.specs.declared.dispatch.Arrival.{Arrival}
+use Rattle.flex_base.specs.declared.event.Arrival.{Arrival}
 use Rattle.avm2_machine.specs.declared.dispatch.Call.{Call}
-use Rattle.avm2_machine.specs.declared.dispatch.Phase.{Phase}
-use Rattle.avm2_machine.specs.declared.dispatch.Phase.TheVariants.{Capture, Target, Bubble}
-use Rattle.avm2_machine.specs.declared.event.UserEvent.{UserEvent}
-use Rattle.avm2_machine.specs.declared.event.UserEvent.TheVariants as event
+use Rattle.flex_base.specs.declared.event.Phase.{Phase}
+use Rattle.flex_base.specs.declared.event.Phase.TheVariants.{Capture, Target, Bubble}
+use Rattle.flex_base.specs.declared.event.UserEvent.{UserEvent}
+use Rattle.flex_base.specs.declared.event.UserEvent.TheVariants as event
 use Rattle.avm2_machine.specs.declared.frame.Frame.{Frame}
 use Rattle.avm2_machine.specs.declared.frame.Frame.TheVariants as opened
 use Rattle.avm2_machine.specs.declared.frame.Operand.{Operand}
 use Rattle.avm2_machine.specs.declared.frame.Operand.TheVariants as operand
-use Rattle.avm2_machine.specs.Events.{arrivals, hearing, phase_number, click}
-use Rattle.avm2_machine.specs.Machine.{recorded, faults, opens, entered, begins, call_at, clicks as clicks_frame}
+use Rattle.flex_base.specs.Events.{arrivals, hearing, path_text, phase_number, click}
+use Rattle.avm2_machine.specs.Machine.{recorded, faults, opens, ended, entered, begins, call_at, clicks as clicks_frame}
 use Rattle.avm2_machine.specs.Tables.{body_of, hears_clicks, first_locals}
 use Rattle.script_player.specs.Playing.{Config}
 use Rattle.flexc.specs.Emitted.{encode_all, handler_code, handler_number, text_string, main_text}
 use Rattle.flexc.specs.Meaning.{handle, hear, hear_all, visit, send, reached, clicks, does}
-use Rattle.flexc.specs.World.{Click, Listener, Component, World, Result, Goes, bind, note, enter, leave, numbered, take, new_component, with_component, outer, listeners, listeners_of}
+use Rattle.flex_base.specs.Lists.{entry}
+use Rattle.flexc.specs.World.{MouseEvent, Listener, Component, World, Result, Goes, Halts, bind, note, enter, leave, take, new_component, with_component, outer, listeners, listeners_of}
 use Rattle.flexc.proofs.Decoded.{Stands, size, code_stands}
 use Rattle.flexc.proofs.Encodable.{handler_encodable}
 use Rattle.flexc.proofs.Handlers.{handlers, IsHandler, handler_body_of, handler_body_is, handler_hears, stands_at, stands_within}
 use Rattle.flexc.proofs.Looked.{abc, trace_name, text_is}
 use Rattle.flexc.proofs.Runs.{AreHandlers, AllHeard, IsReady, one_heard_more}
-use Rattle.flexc.proofs.Sims.{running, SameObjects, IsCounted, Sim, sim_then, sim_assoc, turned, takes_at_sim, entered_sim, find_sim, push_string_sim, trace_sim, return_sim}
+use Rattle.flexc.proofs.Sims.{running, SameObjects, IsCounted, Sim, sim_then, sim_over, sim_assoc, turned, takes_at_sim, entered_sim, find_sim, push_string_sim, trace_sim, return_sim}
 use Rattle.flexc.proofs.States.{one, stage_of, machine_of, at, registration_of, outer_is, heard_is, reached_is}
 
 -- between two lines of the script: each listener is a handler, and each object has cost its cells
@@ -63,7 +66,7 @@ heard_at es (c ∷ cs) (suc n) all = heard_at es cs n all.1
 handlers_at : (es : List Element) (w : World) (o : ObjId) → IsSettled es w → AreHandlers es (listeners w o)
 handlers_at es w o s = by o.0
   where
-    by : (n : ℕ) → AreHandlers es (listeners_of (numbered w.objects n))
+    by : (n : ℕ) → AreHandlers es (listeners_of (entry w.objects n))
     by zero = tt
     by (suc n) = heard_at es w.objects n s.heard
 
@@ -159,32 +162,41 @@ module _ (es : List Element) (few : length es ≤ 100) where
   -- a click is sent
   send_sim : {B : Type 0} (target : ObjId) (nodes : List Arrival) (w : World) → IsSettled es w → (f : Unit {0} → World → Result B) (k : B → World → Config → Type 0)
       → ((w1 : World) → IsSettled es w1 → Sim p main_text (at [] w1) (f tt w1) k)
-      → Sim p main_text (at (opened.Click (record { target = target; nodes = nodes }) ∷ []) w) (bind (send target nodes w) f) k
+      → Sim p main_text (at (opened.Sending (record { target = target; nodes = nodes }) ∷ []) w) (bind (send target nodes w) f) k
   send_sim {B} target nodes w settled f k s =
       let visits : ObjId → World → Result (Unit {0}) = λ _ w1. visit nodes (note (Sent target click) w1) in
-      sim_then p main_text (at (opened.Click (record { target = target; nodes = nodes }) ∷ []) w) (bind (send target nodes w) f) k
-      (sim_assoc p main_text _ (take Click [] 0 w) visits f k
-      (takes_at_sim p main_text Click [] 0 [] [] w (λ e m1. recorded (Sent target click) (opens (dispatch e [] nodes) m1)) (λ e w1. bind (visits e w1) f) k refl settled.counted
+      sim_then p main_text (at (opened.Sending (record { target = target; nodes = nodes }) ∷ []) w) (bind (send target nodes w) f) k
+      (sim_assoc p main_text _ (take MouseEvent [] 0 w) visits f k
+      (takes_at_sim p main_text MouseEvent [] 0 [] [] w (λ e m1. recorded (Sent target click) (opens (dispatch e [] nodes) m1)) (λ e w1. bind (visits e w1) f) k refl settled.counted
       (λ w1 is. visit_sim nodes _ [] (note (Sent target click) w1) (made_settles w1 is) f k s)))
     where
-      made_settles : (w1 : World) → w1 ≡ with_component (new_component Click []) (16 + 0) w → IsSettled es (note (Sent target click) w1)
+      made_settles : (w1 : World) → w1 ≡ with_component (new_component MouseEvent []) (16 + 0) w → IsSettled es (note (Sent target click) w1)
       made_settles w1 is =
-          let objects : w1.objects ≡ w.objects ++ new_component Click [] ∷ [] = ap (λ x. x.objects) is in
+          let objects : w1.objects ≡ w.objects ++ new_component MouseEvent [] ∷ [] = ap (λ x. x.objects) is in
           let cells : w1.cells ≡ w.cells + 16 = ap (λ x. x.cells) is in
           let before = settled.counted.enough in
           record {
-            heard = subst (AllHeard es) (sym objects) (one_heard_more es w.objects (new_component Click []) settled.heard tt);
-            counted = record { enough = omega (arith, cells, before, ap length objects, length-append w.objects (new_component Click [] ∷ [])) };
+            heard = subst (AllHeard es) (sym objects) (one_heard_more es w.objects (new_component MouseEvent []) settled.heard tt);
+            counted = record { enough = omega (arith, cells, before, ap length objects, length-append w.objects (new_component MouseEvent [] ∷ [])) };
           }
+
+  -- a line reaches no component
+  missed_sim : {B : Type 0} (path : List (List ℕ)) (w : World) → IsSettled es w → (f : Unit {0} → World → Result B) (k : B → World → Config → Type 0)
+      → ((w1 : World) → IsSettled es w1 → Sim p main_text (at [] w1) (f tt w1) k)
+      → Sim p main_text (at (opened.Miss (path_text path) ∷ []) w) (f tt (note (Missed (path_text path)) w)) k
+  missed_sim path w settled f k s =
+      let missed = note (Missed (path_text path)) w in
+      sim_then p main_text (at (opened.Miss (path_text path) ∷ []) w) (f tt missed) k
+      (s missed (settled_again es w missed (record { objects = refl; cells = refl }) settled))
 
   -- a line of the script is done
   pub does_sim : {B : Type 0} (e : UserEvent) (w : World) → IsSettled es w → (f : Unit {0} → World → Result B) (k : B → World → Config → Type 0)
       → ((w1 : World) → IsSettled es w1 → Sim p main_text (at [] w1) (f tt w1) k)
       → Sim p main_text (record { machine = begins e (machine_of [] w); records = w.records }) (bind (does one e w) f) k
-  does_sim {B} (event.Click name line) w settled f k s =
-      let frame : Option ObjId → Frame = clicks_frame (stage_of w) name in
-      sim_then p main_text _ (bind (does one (event.Click name line) w) f) k
-      (subst (λ o. Sim p main_text (at (frame o ∷ []) (note (User line) w)) (bind (does one (event.Click name line) w) f) k) (sym (reached_is w one name)) (by (reached w one name)))
+  does_sim {B} (event.Click path line) w settled f k s =
+      let frame : Option ObjId → Frame = clicks_frame (stage_of w) path in
+      sim_then p main_text _ (bind (does one (event.Click path line) w) f) k
+      (subst (λ o. Sim p main_text (at (frame o ∷ []) (note (User line) w)) (bind (does one (event.Click path line) w) f) k) (sym (reached_is w one path)) (by (reached w one path)))
     where
       w1 : World
       w1 = note (User line) w
@@ -192,10 +204,16 @@ module _ (es : List Element) (few : length es ≤ 100) where
       settled1 : IsSettled es w1
       settled1 = settled_again es w w1 (record { objects = refl; cells = refl }) settled
 
-      by : (o : Option ObjId) → Sim p main_text (at (clicks_frame (stage_of w) name o ∷ []) w1) (bind (clicks name o w1) f) k
-      by None =
-          sim_then p main_text (at (opened.Miss name ∷ []) w1) (f tt (note (Missed name) w1)) k
-          (s (note (Missed name) w1) (settled_again es w1 (note (Missed name) w1) (record { objects = refl; cells = refl }) settled1))
+      by : (o : Option ObjId) → Sim p main_text (at (clicks_frame (stage_of w) path o ∷ []) w1) (bind (clicks path o w1) f) k
+      by None = missed_sim path w1 settled1 f k s
       by (Some o) =
-          subst (λ l. Sim p main_text (at (opened.Click (record { target = o; nodes = arrivals o l }) ∷ []) w1) (bind (send o (arrivals o (outer w1 o)) w1) f) k) (sym (outer_is w o))
+          subst (λ l. Sim p main_text (at (opened.Sending (record { target = o; nodes = arrivals o l }) ∷ []) w1) (bind (send o (arrivals o (outer w1 o)) w1) f) k) (sym (outer_is w o))
           (send_sim o (arrivals o (outer w o)) w1 settled1 f k s)
+  does_sim (event.Write path text line) w settled f k s =
+      let w1 = note (User line) w in
+      sim_then p main_text _ (bind (does one (event.Write path text line) w) f) k
+      (missed_sim path w1 (settled_again es w w1 (record { objects = refl; cells = refl }) settled) f k s)
+  does_sim (event.State name line) w settled f k s =
+      let w1 = note (User line) w in
+      let r = bind (does one (event.State name line) w) f in
+      sim_then p main_text _ r k (sim_then p main_text (at (opened.UnknownState ∷ []) w1) r k (sim_over p main_text (ended (Stopped UnknownState) (machine_of [] w1)) (Stopped UnknownState) w1 k refl))

@@ -16,8 +16,8 @@ use Rattle.flexc.specs.Lines.{script_of, script_line}
 use Rattle.flexc.specs.Words.{AreWords, Plain, With_turns, turns}
 use Rattle.script_player.specs.Printed.{HasPlayed, Plays}
 use Rattle.flex_front.specs.Source.{HasDocument, IsNotBuilt}
-use Rattle.avm2_machine.specs.declared.event.UserEvent.{UserEvent}
-use Rattle.script_player.specs.Trace.{Story, text, with_end}
+use Rattle.flex_base.specs.declared.event.UserEvent.{UserEvent}
+use Rattle.flex_base.specs.Story.{Story, text, with_end}
 use Rattle.flex_edge.specs.Whole.{HasTaken, Prints}
 use Rattle.flexc.specs.Work.{HasFailed, HasRun, Reports}
 use Rattle.flexc.specs.declared.command.Failure.{Failure}
@@ -27,8 +27,9 @@ use Rattle.flex_edge.specs.declared.input.ReadRefusal.TheVariants as read
 use Rattle.flex_edge.specs.declared.output.WriteRefusal.{WriteRefusal}
 use Rattle.flex_edge.specs.declared.output.WriteRefusal.TheVariants as write
 use Rattle.flex_front.specs.declared.document.Document.{Document}
+use Rattle.flexc.proofs.Asked.{asks_none}
 use Rattle.flexc.proofs.EndsWell.{ends_so}
-use Rattle.flex_front.proofs.Documents.{one_document, short_source as source_short}
+use Rattle.flex_front.proofs.DocumentLaws.{one_document, short_source as source_short}
 
 -- what failed, and what was said of it
 pub failed_course : (words : List (List ℕ)) (f : Failure) (old new : FilesState) (before mid after : SinkState) (answer : Status)
@@ -497,4 +498,4 @@ module _ (words : List (List ℕ)) (old new : FilesState) (before after : SinkSt
 -- how the play of a document that was built comes to its end
 pub run_ends : (words : List (List ℕ)) (outcome : Outcome) (old new : FilesState) (before after : SinkState) → HasRun words outcome old new before after → IsEnd outcome
 run_ends words outcome old new before after h =
-    subst IsEnd (same_outcome words old new before after h.written.bytes h.document h.events outcome h.written.plays h.plays) (ends_so h.document h.events (turns words))
+    subst IsEnd (same_outcome words old new before after h.written.bytes h.document h.events outcome h.written.plays h.plays) (ends_so h.document h.events (turns words) (asks_none h.written.built.commands h.events h.written.built.says))

@@ -7,8 +7,8 @@ use Rattle.avm2_code.specs.Table.{Operand, operands}
 use Rattle.avm2_code.specs.Reading.{instruction_at}
 use Rattle.avm2_code.specs.Writing.{encode}
 use Rattle.avm2_code.specs.Assembly.{FitsForm}
-use Rattle.avm2_code.proofs.Encoded.{spelled-instruction}
-use Rattle.avm2_code.proofs.Read.{standing_is_read}
+use Rattle.avm2_code.proofs.EncodingLaws.{spelled-instruction}
+use Rattle.avm2_code.proofs.ReadingLaws.{standing_is_read}
 use Rattle.flexc.specs.Emitted.{encode_all}
 
 -- operands that fit their forms, one by one

@@ -3,7 +3,8 @@ use Rattle.std.proofs.Common.{◌≡◌, ℕ, zero, suc, ◌+◌, List, [], ◌�
 use Rattle.std.specs.Prelude.{if◌then◌else◌, nat_lt, ◌⊎◌, length, map, codes}
 use Rattle.flex_base.specs.Value.{same}
 use Rattle.flex_base.specs.declared.outcome.Outcome.TheVariants.{Stopped, TurnsSpent}
-use Rattle.flex_base.specs.declared.outcome.Stop.TheVariants.{Depth, Cells}
+use Rattle.flex_base.specs.declared.outcome.Stop.TheVariants.{Depth, Cells, UnknownState}
+use Rattle.flex_base.specs.declared.outcome.Stop.{Stop}
 use Rattle.flex_base.specs.declared.record.TraceItem.{TraceItem}
 use Rattle.flex_base.specs.declared.record.TraceItem.TheVariants.{Made, Written, Added, Sent, Heard, Traced, User, Missed}
 use Rattle.flex_base.specs.declared.value.ObjId.{ObjId}
@@ -13,14 +14,14 @@ use Rattle.flex_front.specs.declared.document.Element.{Element}
 use Rattle.flex_front.specs.declared.document.Element.TheVariants as element
 use Rattle.flex_front.specs.declared.document.Document.{Document}
 use Rattle.flex_front.specs.Source.{id_of}
-use Rattle.avm2_machine.specs.declared.dispatch.Arrival.{Arrival}
-use Rattle.avm2_machine.specs.declared.event.UserEvent.{UserEvent}
-use Rattle.avm2_machine.specs.declared.event.UserEvent.TheVariants as event
-use Rattle.avm2_machine.specs.Events.{arrivals, hearing, phase_number, click}
+use Rattle.flex_base.specs.declared.event.Arrival.{Arrival}
+use Rattle.flex_base.specs.declared.event.UserEvent.{UserEvent}
+use Rattle.flex_base.specs.declared.event.UserEvent.TheVariants as event
+use Rattle.flex_base.specs.Events.{arrivals, hearing, path_text, phase_number, click}
 use Rattle.avm2_machine.specs.Names.{class_name}
 use Rattle.flexc.specs.GoingOn.{IsBeginning, GoesOn, MoreTurnsGoOn}
-use Rattle.flexc.specs.Meaning.{element_class, properties_of, id_property, next_handler, handler, apply, build_element, build_all, construct, handle, hear, hear_all, visit, send, reached, clicks, does, do_all, play, told}
-use Rattle.flexc.specs.World.{Kind, Main, Native, Click, Property, Listener, World, Result, Goes, Halts, bind, note, empty_world, spend, enter, leave, activity, take, make, next_number, new_component, with_component, component, property_in, child_count, with_child, with_listener, stored, write_over, write, add, outer, listeners}
+use Rattle.flexc.specs.Meaning.{element_class, properties_of, id_property, next_handler, handler, apply, build_element, build_all, construct, handle, hear, hear_all, visit, send, held, walked, shown, reached, clicks, does, do_all, play, told}
+use Rattle.flexc.specs.World.{Kind, Main, Native, MouseEvent, Property, Listener, World, Result, Goes, Halts, bind, note, empty_world, spend, enter, leave, activity, take, make, next_number, new_component, with_component, component, property_in, child_count, with_child, with_listener, stored, write_over, write, add, outer, listeners}
 
 -- the same world with more turns left
 abbrev more : ℕ → World → World
@@ -100,6 +101,10 @@ take_steadily kind properties declared = record {
     extended : (k : ℕ) (w : World) (t : Bool) → Extends k (if t then Halts (Stopped Cells) w else Goes (next_number w) (with_component (new_component kind properties) (16 + declared) w)) (if t then Halts (Stopped Cells) (more k w) else Goes (next_number w) (with_component (new_component kind properties) (16 + declared) (more k w)))
     extended k w true = inr refl
     extended k w false = refl
+
+-- the play stops
+stops_steadily : {A : Type 0} (cause : Stop) → IsSteady {A = A} (λ w. Halts (Stopped cause) w)
+stops_steadily cause = record { grows = λ w. beginning_same w.records; extends = λ k w. inr refl }
 
 -- a record is noted
 note_steadily : {A : Type 0} (v : A) (item : TraceItem) → IsSteady (λ w. Goes v (note item w))
@@ -204,18 +209,30 @@ visit_steadily (a ∷ nodes) =
 -- an event is sent
 send_steadily : (target : ObjId) (nodes : List Arrival) → IsSteady (send target nodes)
 send_steadily target nodes =
-    steady_bind _ _ (take_steadily Click [] 0) (λ _. noted_steadily (Sent target click) (visit nodes) (visit_steadily nodes))
+    steady_bind _ _ (take_steadily MouseEvent [] 0) (λ _. noted_steadily (Sent target click) (visit nodes) (visit_steadily nodes))
 
--- a click on what a name has reached, or on nothing
-clicks_steadily : (name : List ℕ) (o : Option ObjId) → IsSteady (clicks name o)
-clicks_steadily name None = note_steadily tt (Missed name)
-clicks_steadily name (Some o) = steady_by (λ w. arrivals o (outer w o)) (send o) (λ k w. refl) (send_steadily o)
+-- more turns don't change what a path reaches
+walked_alike : (k : ℕ) (w : World) (o : Option ObjId) (path : List (List ℕ)) → walked (more k w) o path ≡ walked w o path
+walked_alike k w o [] = refl
+walked_alike k w None (name ∷ path) = refl
+walked_alike k w (Some o) (name ∷ path) = walked_alike k w (held (property_in name (component w o))) path
+
+reached_alike : (document : ObjId) (path : List (List ℕ)) (k : ℕ) (w : World) → reached (more k w) document path ≡ reached w document path
+reached_alike document path k w = ap (shown w document) (walked_alike k w (Some document) path)
+
+-- a click on what a path has reached, or on nothing
+clicks_steadily : (path : List (List ℕ)) (o : Option ObjId) → IsSteady (clicks path o)
+clicks_steadily path None = note_steadily tt (Missed (path_text path))
+clicks_steadily path (Some o) = steady_by (λ w. arrivals o (outer w o)) (send o) (λ k w. refl) (send_steadily o)
 
 -- a line of the script
 does_steadily : (document : ObjId) (e : UserEvent) → IsSteady (does document e)
-does_steadily document (event.Click name line) =
-    steady_by (λ w. reached w document name) (λ o w. clicks name o (note (User line) w)) (λ k w. refl)
-    (λ o. noted_steadily (User line) (clicks name o) (clicks_steadily name o))
+does_steadily document (event.Click path line) =
+    steady_by (λ w. reached w document path) (λ o w. clicks path o (note (User line) w)) (reached_alike document path)
+    (λ o. noted_steadily (User line) (clicks path o) (clicks_steadily path o))
+does_steadily document (event.Write path text line) =
+    noted_steadily (User line) (λ w. Goes tt (note (Missed (path_text path)) w)) (note_steadily tt (Missed (path_text path)))
+does_steadily document (event.State name line) = noted_steadily (User line) (λ w. Halts (Stopped UnknownState) w) (stops_steadily UnknownState)
 
 -- the whole script
 script_steadily : (document : ObjId) (events : List UserEvent) → IsSteady (do_all document events)

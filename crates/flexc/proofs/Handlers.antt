@@ -11,7 +11,8 @@ use Rattle.flex_front.specs.declared.document.Element.{Element}
 use Rattle.flex_front.specs.declared.document.Element.TheVariants as element
 use Rattle.flex_front.specs.Source.{id_of, AreNewIds}
 use Rattle.avm2_machine.specs.Names.{Name}
-use Rattle.avm2_machine.specs.Tables.{body_in, body_of, one_later, named, method_by, method_named, hears_clicks, takes_clicks}
+use Rattle.flex_base.specs.Lists.{one_later}
+use Rattle.avm2_machine.specs.Tables.{body_in, body_of, named, method_by, method_named, hears_clicks, takes_clicks}
 use Rattle.avm2_code.specs.declared.instruction.Instruction.TheVariants.{ReturnVoid}
 use Rattle.abc_format.specs.declared.records.MethodBody.{MethodBody}
 use Rattle.flexc.specs.Emitted.{encode_all, script_code, constructor_code, building_code, body, each_handler, handler_text, handler_number, handler_method, handler_trait, handler_body, instance_traits}

@@ -18,6 +18,7 @@ pub mod PlaysAs
 pub mod Says
 pub mod Courses
 pub mod EndsWell
+pub mod Asked
 pub mod Works
 pub mod Lines
 pub mod Numbers

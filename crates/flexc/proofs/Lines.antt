@@ -8,7 +8,7 @@ use Rattle.std.proofs.lemmas.List.Quantifiers.{position-Some}
 use Rattle.std.proofs.lemmas.List.Sums.{fails_before_first}
 use Rattle.std.proofs.lemmas.Bool.{ltb-false, eqb-true, eq-eqb}
 use Rattle.std.proofs.lemmas.Str.{IsUtf8-from_is_utf8, is_utf8-from_IsUtf8}
-use Rattle.avm2_machine.specs.declared.event.UserEvent.{UserEvent}
+use Rattle.flex_base.specs.declared.event.UserEvent.{UserEvent}
 use Rattle.flexc.specs.declared.script.ScriptRefusal.{ScriptRefusal}
 use Rattle.flexc.specs.declared.script.ScriptRefusal.TheVariants as refusal
 use Rattle.flexc.specs.Lines.{without_return, lines_onto, lines, behind, Said, Nothing, Something, Unknown, line_says, with_said, events_from, script_of, Reads, more, Puts}

@@ -12,9 +12,10 @@ use Rattle.flex_front.specs.Source.{id_of}
 use Rattle.avm2_machine.specs.declared.stage.Slot.{Slot}
 use Rattle.flexc.specs.Emitted.{each_from, each_element, each_handler, class_number, id_string, text_string, handler_string, id_name, handler_name, rank_int, fixed_names, fixed_strings, element_strings, element_names, handler_text, id_trait, handler_trait, building_trait, instance_traits, abc_of}
 use Rattle.flexc.specs.Meaning.{id_property, element_class}
-use Rattle.avm2_machine.specs.Events.{click}
+use Rattle.flex_base.specs.Events.{click}
 use Rattle.avm2_machine.specs.declared.frame.Operand.TheVariants as operand
-use Rattle.avm2_machine.specs.Names.{Name, entry, string_at, name_of, with_texts, name_at, native_at, holder}
+use Rattle.flex_base.specs.Lists.{entry}
+use Rattle.avm2_machine.specs.Names.{Name, string_at, name_of, with_texts, name_at, native_at, holder}
 use Rattle.avm2_machine.specs.Tables.{public_text, public_at, typed_slot, declared_slot, and_slot, declared_onto, method_by, is_named, method_named}
 use Rattle.flexc.proofs.Sims.{IsMethodName}
 use Rattle.flexc.proofs.States.{slot_of}

@@ -7,7 +7,7 @@ use Rattle.avm2_code.specs.declared.parts.Part.TheVariants.{Plain}
 use Rattle.avm2_code.specs.declared.parts.Parts.{Parts}
 use Rattle.avm2_code.specs.Table.{operands}
 use Rattle.avm2_code.specs.Assembly.{FitsForm, PartFits, HasMark, AreMarked, code_of, targets}
-use Rattle.avm2_code.proofs.Sizes.{plain-code}
+use Rattle.avm2_code.proofs.SizeLaws.{plain-code}
 use Rattle.flexc.specs.Emitted.{encode_all}
 use Rattle.flexc.proofs.WrittenSize.{encode_all-within}
 

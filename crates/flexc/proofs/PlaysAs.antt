@@ -12,7 +12,7 @@ use Rattle.swf_tags.specs.Spelling.{swf_bytes}
 use Rattle.flex_front.specs.declared.document.Element.{Element}
 use Rattle.flex_front.specs.declared.document.Document.{Document}
 use Rattle.flex_front.specs.Source.{IsShort, AreNewIds}
-use Rattle.avm2_machine.specs.declared.event.UserEvent.{UserEvent}
+use Rattle.flex_base.specs.declared.event.UserEvent.{UserEvent}
 use Rattle.avm2_machine.specs.Machine.{begins, idle}
 use Rattle.script_player.specs.Playable.{IsPlayable}
 use Rattle.script_player.specs.Playing.{Config, Play, first, boot, opening, over, over_with, run, played, ComesTo, HasTrace, NeverFaults}

@@ -23,11 +23,12 @@ use Rattle.avm2_machine.specs.declared.stage.Class.TheVariants as class
 use Rattle.flexc.specs.Emitted.{encode_all, each_element, class_number, id_name, text_string, handler_name, handler_number, rank_int, attribute_code, place_code, element_code, building_code, body, main_text}
 use Rattle.flexc.specs.Meaning.{text_property, element_class, properties_of, handler, next_handler, apply, build_element, build_all}
 use Rattle.script_player.specs.Playing.{Config}
-use Rattle.avm2_machine.specs.Events.{click}
+use Rattle.flex_base.specs.Events.{click}
 use Rattle.avm2_machine.specs.Machine.{class_method}
 use Rattle.avm2_machine.specs.Names.{class_name}
 use Rattle.avm2_machine.specs.Stage.{object_at, has_class, is_of, native_slots, same_native}
-use Rattle.flexc.specs.World.{Kind, Main, Native, Content, An_object, Property, Listener, Component, World, Result, Goes, bind, note, leave, component, new_component, with_component, next_number, property_named, with_value, changed_at, write_over, write, add, make, stored, with_child, listen, with_listener}
+use Rattle.flex_base.specs.Lists.{changed_at}
+use Rattle.flexc.specs.World.{Kind, Main, Native, Content, An_object, Property, Listener, Component, World, Result, Goes, bind, note, leave, component, new_component, with_component, next_number, property_named, with_value, write_over, write, add, make, stored, with_child, listen, with_listener}
 use Rattle.flexc.proofs.Decoded.{Stands, parts, size}
 use Rattle.flexc.proofs.Handlers.{new_at, bytes_eq-refl, handlers, handlers-more, IsHandler, handler_called, handler_found, stands_at, stands_within}
 use Rattle.flexc.proofs.Looked.{slice_get_seam, abc, class_is, holder_is, text_name, listener_name, click_is, place_name, text_is, id_public, handler_named, rank_is}

@@ -29,7 +29,8 @@ use Rattle.avm2_machine.specs.declared.stage.Stage.{Stage}
 use Rattle.std.specs.Result.{result_ok}
 use Rattle.avm2_code.specs.Reading.{instruction_at}
 use Rattle.avm2_machine.specs.Machine.{Moved, Making, Unmade, IsMade, silent, ends, act, executes, pushes_found, recorded, and_then, makes, with_frame, with_operand, makes_native, ended, writes_public, writes_slot, writes, calls, calls_method, enters_found, class_method, adds, entered, enters_body, with_turn, gets_property}
-use Rattle.avm2_machine.specs.Names.{Name, entry, string_at, name_at, native_at, class_name, is_name, holder}
+use Rattle.flex_base.specs.Lists.{entry}
+use Rattle.avm2_machine.specs.Names.{Name, string_at, name_at, native_at, class_name, is_name, holder}
 use Rattle.script_player.specs.Playing.{Config, and_item, moved_on, advance}
 use Rattle.avm2_machine.specs.Stage.{too_many_cells, is_of, native_slots, property, children_of, object_at, next_place, next_object, with_object, with_property}
 use Rattle.avm2_machine.specs.Tables.{fetch, fetch_in, body_of, first_locals, public_at}

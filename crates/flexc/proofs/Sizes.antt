@@ -6,7 +6,7 @@ use Rattle.std.proofs.Math.Nat.{mul-suc, mul-le-mul_left}
 use Rattle.std.proofs.lemmas.List.Elements.{All-head, All-tail, All-nil, All-cons, All-append}
 use Rattle.abc_format.specs.Numbers.{u30_bytes, int_bytes}
 use Rattle.abc_format.specs.Spelling.{counted, table, table_count}
-use Rattle.avm2_code.proofs.Sizes.{u30-length}
+use Rattle.avm2_code.proofs.SizeLaws.{u30-length}
 use Rattle.flex_front.specs.declared.document.Element.{Element}
 use Rattle.flex_front.specs.declared.document.Element.TheVariants.{Label, Button}
 use Rattle.flexc.specs.Emitted.{each_from, each_element, each_handler}

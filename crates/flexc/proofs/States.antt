@@ -1,14 +1,14 @@
 -- From the world of a source to the state of the machine, operation by operation.
 use Rattle.std.proofs.Common.{◌≡◌, ℕ, zero, suc, ◌+◌, List, [], ◌∷◌, ◌++◌, length, Option, None, Some, Bool, true, false, refl, sym, ap, ◌∙◌}
-use Rattle.std.specs.Prelude.{map, option_map, if◌then◌else◌}
+use Rattle.std.specs.Prelude.{map, option_map, if◌then◌else◌, ◌||◌}
 use Rattle.std.specs.List.{filter, list_any}
 use Rattle.std.specs.Str.{bytes_eq}
 use Rattle.std.proofs.lemmas.List.{map-append, length-map}
 use Rattle.std.proofs.lemmas.Option.{slice_get-map}
 use Rattle.flex_base.specs.declared.value.ObjId.{ObjId}
 use Rattle.flex_base.specs.declared.value.Value.{Value}
-use Rattle.avm2_machine.specs.declared.dispatch.Phase.{Phase}
-use Rattle.avm2_machine.specs.declared.dispatch.Phase.TheVariants.{Capture, Target, Bubble}
+use Rattle.flex_base.specs.declared.event.Phase.{Phase}
+use Rattle.flex_base.specs.declared.event.Phase.TheVariants.{Capture, Target, Bubble}
 use Rattle.avm2_machine.specs.declared.frame.Frame.{Frame}
 use Rattle.avm2_machine.specs.declared.machine.Load.TheVariants as load
 use Rattle.avm2_machine.specs.declared.machine.Machine.{Machine}
@@ -20,18 +20,20 @@ use Rattle.avm2_machine.specs.declared.stage.Registration.{Registration}
 use Rattle.avm2_machine.specs.declared.stage.Slot.{Slot}
 use Rattle.avm2_machine.specs.declared.stage.Object.{Object}
 use Rattle.avm2_machine.specs.declared.stage.Stage.{Stage}
-use Rattle.avm2_machine.specs.Events.{outward, ancestors, hearing}
-use Rattle.avm2_machine.specs.Machine.{ref_of, is_object, held as slot_held, shown as stage_shown, reached as stage_reached}
-use Rattle.avm2_machine.specs.Stage.{object_at, property, slot_of as stage_slot_of, slot_named, next_object, with_object, with_value as with_slot_value, changed_at as changed_object_at, with_property, with_last as with_stage_last, with_parent as with_stage_parent, with_child as with_stage_child, with_listener as with_stage_listener, parent as stage_parent, parent_of as stage_parent_of, outer as stage_outer, listeners as stage_listeners, listeners_of as stage_listeners_of}
+use Rattle.flex_base.specs.Events.{outward, ancestors, hearing}
+use Rattle.flex_base.specs.Value.{ref_of, is_object}
+use Rattle.avm2_machine.specs.Machine.{shown as stage_shown, reached as stage_reached}
+use Rattle.avm2_machine.specs.Stage.{object_at, property, held as slot_held, walked as stage_walked, slot_of as stage_slot_of, slot_named, next_object, with_object, with_value as with_slot_value, with_property, with_last as with_stage_last, with_parent as with_stage_parent, with_child as with_stage_child, with_listener as with_stage_listener, parent as stage_parent, parent_of as stage_parent_of, outer as stage_outer, listeners as stage_listeners, listeners_of as stage_listeners_of}
 use Rattle.script_player.specs.Playing.{Config}
 use Rattle.flexc.specs.Emitted.{handler_number}
-use Rattle.flexc.specs.Meaning.{held, shown, reached}
-use Rattle.flexc.specs.World.{Kind, Main, Native, Click, Content, A_text, An_object, Property, Listener, Component, World, new_component, next_number, with_component, component, numbered, property_named, property_in, with_value, changed_at, stored, with_last, with_parent, with_child, with_listener, parent, parent_of, outer, listeners, listeners_of}
+use Rattle.flexc.specs.Meaning.{held, walked, shown, reached}
+use Rattle.flex_base.specs.Lists.{entry, changed_at}
+use Rattle.flexc.specs.World.{Kind, Main, Native, MouseEvent, Content, A_text, An_object, Property, Listener, Component, World, new_component, next_number, with_component, component, property_named, property_in, with_value, stored, with_last, with_parent, with_child, with_listener, parent, parent_of, outer, listeners, listeners_of}
 
 abbrev pub class_of : Kind → Class
 class_of Main = class.File 0
 class_of (Native c) = class.Native c
-class_of Click = class.MouseEvent
+class_of MouseEvent = class.MouseEvent
 
 -- the type of what a property holds
 abbrev pub type_of : Content → PropertyType
@@ -79,7 +81,7 @@ next_number_is w = ap (λ n. record { 0 = suc n }) (length-map w.objects object_
 pub object_is : (w : World) (o : ObjId) → object_at (stage_of w) o ≡ option_map object_of (component w o)
 object_is w o = by o.0
   where
-    by : (n : ℕ) → object_at (stage_of w) (record { 0 = n }) ≡ option_map object_of (numbered w.objects n)
+    by : (n : ℕ) → object_at (stage_of w) (record { 0 = n }) ≡ option_map object_of (entry w.objects n)
     by zero = refl
     by (suc n) = slice_get-map object_of w.objects n
 
@@ -104,7 +106,7 @@ values_are name v (p ∷ ps) = by (values_are name v ps) (bytes_eq p.name name)
     by others true = refl
     by others false = ap (λ l. slot_of p ∷ l) others
 
-changes_are : (f : Object → Object) (g : Component → Component) → ((c : Component) → f (object_of c) ≡ object_of (g c)) → (cs : List Component) (n : ℕ) → changed_object_at f (map object_of cs) n ≡ map object_of (changed_at g cs n)
+changes_are : (f : Object → Object) (g : Component → Component) → ((c : Component) → f (object_of c) ≡ object_of (g c)) → (cs : List Component) (n : ℕ) → changed_at f (map object_of cs) n ≡ map object_of (changed_at g cs n)
 changes_are f g e [] n = refl
 changes_are f g e (c ∷ cs) zero = ap (λ o. o ∷ map object_of cs) (e c)
 changes_are f g e (c ∷ cs) (suc n) = ap (λ l. object_of c ∷ l) (changes_are f g e cs n)
@@ -189,14 +191,22 @@ heard_is kind phase w o = ap (hearing (λ r. r.event) kind phase) (ap stage_list
     by None = refl
     by (Some c) = refl
 
--- what a name reaches
-pub reached_is : (w : World) (document : ObjId) (name : List ℕ) → stage_reached (stage_of w) (Some document) name ≡ reached w document name
-reached_is w document name = ap (λ p. stage_shown (stage_of w) document (slot_held p)) (property_is name w document) ∙ by (property_in name (component w document))
-  where
-    shown_is : (o : Option ObjId) → stage_shown (stage_of w) document o ≡ shown w document o
-    shown_is None = refl
-    shown_is (Some o) = ap (λ l. if list_any (is_object document) l then Some o else None) (outer_is w o)
+-- what a path reaches
+held_is : (p : Option Property) → slot_held (option_map slot_of p) ≡ held p
+held_is None = refl
+held_is (Some p) = refl
 
-    by : (p : Option Property) → stage_shown (stage_of w) document (slot_held (option_map slot_of p)) ≡ shown w document (held p)
+walked_is : (w : World) (o : Option ObjId) (path : List (List ℕ)) → stage_walked (stage_of w) o path ≡ walked w o path
+walked_is w o [] = refl
+walked_is w None (name ∷ path) = refl
+walked_is w (Some o) (name ∷ path) =
+    ap (λ p. stage_walked (stage_of w) (slot_held p) path) (property_is name w o)
+    ∙ ap (λ h. stage_walked (stage_of w) h path) (held_is (property_in name (component w o)))
+    ∙ walked_is w (held (property_in name (component w o))) path
+
+pub reached_is : (w : World) (document : ObjId) (path : List (List ℕ)) → stage_reached (stage_of w) (Some document) path ≡ reached w document path
+reached_is w document path = ap (stage_shown (stage_of w) document) (walked_is w (Some document) path) ∙ by (walked w (Some document) path)
+  where
+    by : (o : Option ObjId) → stage_shown (stage_of w) document o ≡ shown w document o
     by None = refl
-    by (Some p) = shown_is (ref_of p.value)
+    by (Some o) = ap (λ l. if is_object document o || list_any (is_object document) l then Some o else None) (outer_is w o)

@@ -7,7 +7,7 @@ use Rattle.flexc.specs.Command.{At_script, HasBuilt, HasWrittenFile, HasNoMemory
 use Rattle.flexc.specs.PlaysAs.{PlaysAs}
 use Rattle.flexc.specs.Words.{AreWords}
 use Rattle.flex_front.specs.Source.{IsNotBuilt}
-use Rattle.avm2_machine.specs.declared.event.UserEvent.{UserEvent}
+use Rattle.flex_base.specs.declared.event.UserEvent.{UserEvent}
 use Rattle.flex_edge.specs.Whole.{MakesNone, ReadsFile, WritesFile}
 use Rattle.flexc.specs.Work.{read_failure, IsRefused, HasNoDocument, HasFailed}
 use Rattle.flexc.specs.declared.command.Failure.{Failure}

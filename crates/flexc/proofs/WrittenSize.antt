@@ -20,7 +20,7 @@ use Rattle.flex_front.specs.Source.{IsShort}
 use Rattle.avm2_code.specs.declared.instruction.Instruction.{Instruction}
 use Rattle.avm2_code.specs.declared.instruction.Instruction.TheVariants.{ReturnVoid}
 use Rattle.avm2_code.specs.Writing.{encode}
-use Rattle.avm2_code.proofs.Sizes.{instruction-length}
+use Rattle.avm2_code.proofs.SizeLaws.{instruction-length}
 use Rattle.flexc.specs.Emitted.{encode_all, each_from, each_element, each_handler, class_number, id_name, handler_name, handler_number, id_trait, building_trait, handler_trait, class_trait, plain_method, handler_method, methods_of, bindable, class_info, script_info, instance_of, instance_traits, element_code, building_code, script_code, constructor_code, handler_code, body, handler_body, bodies_of, namespaces, id_string, handler_string, fixed_names, element_names, fixed_strings, element_strings, handler_text, main_text, pool_of, abc_of}
 use Rattle.flexc.proofs.Sizes.{Within, loosen, none, one, ◌⊕◌, u30-within, int-within, counted-within, table-within, empty-within, flat_map-within, each_from-length, each_from-all, each_element-length, each_element-short, each_element-all, each_handler-length, each_handler-all}
 

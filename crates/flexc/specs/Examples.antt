@@ -7,8 +7,8 @@ use Rattle.flex_base.specs.declared.value.ObjId.{ObjId}
 use Rattle.flex_base.specs.declared.value.Value.TheVariants as value
 use Rattle.flex_front.specs.declared.document.Document.{Document}
 use Rattle.flex_front.specs.declared.document.Element.TheVariants.{Label, Button}
-use Rattle.avm2_machine.specs.declared.event.UserEvent.{UserEvent}
-use Rattle.avm2_machine.specs.declared.event.UserEvent.TheVariants.{Click}
+use Rattle.flex_base.specs.declared.event.UserEvent.{UserEvent}
+use Rattle.flex_base.specs.declared.event.UserEvent.TheVariants.{Click}
 use Rattle.flexc.specs.Meaning.{source_trace}
 
 -- a document with one Label
@@ -70,7 +70,7 @@ abbrev pub greeter : Document
 greeter = record { elements = Button (codes "go") (Some (codes "hi")) ∷ [] }
 
 abbrev pub click_on : List ℕ → UserEvent
-click_on name = Click name (codes "click " ++ name)
+click_on name = Click (name ∷ []) (codes "click " ++ name)
 
 abbrev pub greeter_is_built : List TraceItem
 greeter_is_built =

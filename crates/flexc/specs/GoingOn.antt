@@ -3,8 +3,8 @@ use Rattle.std.specs.Prelude.{◌≡◌, ◌≢◌, ℕ, ◌+◌, List, ◌++◌
 use Rattle.flex_base.specs.declared.outcome.Outcome.TheVariants.{TurnsSpent}
 use Rattle.flex_base.specs.declared.record.TraceItem.{TraceItem}
 use Rattle.flex_front.specs.declared.document.Document.{Document}
-use Rattle.avm2_machine.specs.declared.event.UserEvent.{UserEvent}
-use Rattle.script_player.specs.Trace.{Story}
+use Rattle.flex_base.specs.declared.event.UserEvent.{UserEvent}
+use Rattle.flex_base.specs.Story.{Story}
 use Rattle.flexc.specs.Meaning.{source_trace}
 
 -- items that others begin with

@@ -1,8 +1,8 @@
 -- The lines of a script.
 use Rattle.std.specs.Prelude.{◌≡◌, ℕ, suc, ◌-◌, length, take, slice_index, List, [], ◌∷◌, ◌++◌, Bool, true, if◌then◌else◌, ◌==◌, Option, Some, None, Result, Ok, Err, codes, decimal}
 use Rattle.std.specs.Str.{is_utf8}
-use Rattle.avm2_machine.specs.declared.event.UserEvent.{UserEvent}
-use Rattle.avm2_machine.specs.declared.event.UserEvent.TheVariants as event
+use Rattle.flex_base.specs.declared.event.UserEvent.{UserEvent}
+use Rattle.flex_base.specs.declared.event.UserEvent.TheVariants as event
 use Rattle.flex_front.specs.Source.{is_name}
 use Rattle.flexc.specs.declared.script.Line.{Line}
 use Rattle.flexc.specs.declared.script.Line.TheVariants as line
@@ -36,7 +36,7 @@ pub data Said : Type 0 where
 -- a click on what this names, if it is a name
 abbrev pub click_on : List ℕ → Option (List ℕ) → Said
 click_on line None = Unknown
-click_on line (Some name) = if is_name name then Something (event.Click name line) else Unknown
+click_on line (Some name) = if is_name name then Something (event.Click (name ∷ []) line) else Unknown
 
 abbrev pub text_says : List ℕ → Said
 text_says [] = Nothing

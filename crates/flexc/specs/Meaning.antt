@@ -1,7 +1,8 @@
 -- What a source means: the trace of its play.
-use Rattle.std.specs.Prelude.{ℕ, suc, List, [], ◌∷◌, length, map, Option, Some, None, if◌then◌else◌, codes}
+use Rattle.std.specs.Prelude.{ℕ, suc, List, [], ◌∷◌, length, map, Option, Some, None, ◌||◌, if◌then◌else◌, codes}
 use Rattle.std.specs.List.{list_any}
-use Rattle.flex_base.specs.declared.outcome.Outcome.TheVariants.{Ended}
+use Rattle.flex_base.specs.declared.outcome.Outcome.TheVariants.{Ended, Stopped}
+use Rattle.flex_base.specs.declared.outcome.Stop.TheVariants.{UnknownState}
 use Rattle.flex_base.specs.declared.record.TraceItem.TheVariants.{Sent, Heard, Traced, User, Missed}
 use Rattle.flex_base.specs.declared.value.ObjId.{ObjId}
 use Rattle.flex_base.specs.declared.value.Value.TheVariants as value
@@ -11,14 +12,14 @@ use Rattle.flex_front.specs.declared.document.Element.{Element}
 use Rattle.flex_front.specs.declared.document.Element.TheVariants as element
 use Rattle.flex_front.specs.declared.document.Document.{Document}
 use Rattle.flex_front.specs.Source.{id_of}
-use Rattle.avm2_machine.specs.declared.dispatch.Arrival.{Arrival}
-use Rattle.avm2_machine.specs.declared.event.UserEvent.{UserEvent}
-use Rattle.avm2_machine.specs.declared.event.UserEvent.TheVariants as event
-use Rattle.avm2_machine.specs.Events.{arrivals, hearing, phase_number, click}
-use Rattle.avm2_machine.specs.Machine.{ref_of, is_object}
-use Rattle.script_player.specs.Trace.{Story}
+use Rattle.flex_base.specs.declared.event.Arrival.{Arrival}
+use Rattle.flex_base.specs.declared.event.UserEvent.{UserEvent}
+use Rattle.flex_base.specs.declared.event.UserEvent.TheVariants as event
+use Rattle.flex_base.specs.Events.{arrivals, hearing, path_text, phase_number, click}
+use Rattle.flex_base.specs.Value.{ref_of, is_object}
+use Rattle.flex_base.specs.Story.{Story}
 use Rattle.avm2_machine.specs.Names.{class_name}
-use Rattle.flexc.specs.World.{Main, Native, Click, A_text, An_object, Property, Listener, World, Result, Goes, Halts, bind, note, empty_world, activity, take, make, component, property_in, write, add, listen, outer, listeners}
+use Rattle.flexc.specs.World.{Main, Native, MouseEvent, A_text, An_object, Property, Listener, World, Result, Goes, Halts, bind, note, empty_world, activity, take, make, component, property_in, write, add, listen, outer, listeners}
 
 -- a property that holds a text, which is empty at first
 abbrev pub text_property : List ℕ → Property
@@ -91,30 +92,38 @@ visit (a ∷ nodes) w = bind (hear_all a (hearing (λ l. l.event) click a.phase 
 
 -- the event of a click is made, and dispatched along a path
 abbrev pub send : ObjId → List Arrival → World → Result (Unit {0})
-send target nodes w = bind (take Click [] 0 w) (λ _ w1. visit nodes (note (Sent target click) w1))
+send target nodes w = bind (take MouseEvent [] 0 w) (λ _ w1. visit nodes (note (Sent target click) w1))
 
 -- what a property holds, if it is an object
 abbrev pub held : Option Property → Option ObjId
 held None = None
 held (Some p) = ref_of p.value
 
--- an object that has the document as an ancestor is a component that is shown
+-- the object at the end of a path of names: each is of a property that holds an object
+abbrev pub walked : World → Option ObjId → List (List ℕ) → Option ObjId
+walked w o [] = o
+walked w None (name ∷ path) = None
+walked w (Some o) (name ∷ path) = walked w (held (property_in name (component w o))) path
+
+-- the document, and an object that has it as an ancestor, is a component that is shown
 abbrev pub shown : World → ObjId → Option ObjId → Option ObjId
 shown w document None = None
-shown w document (Some o) = if list_any (is_object document) (outer w o) then Some o else None
+shown w document (Some o) = if is_object document o || list_any (is_object document) (outer w o) then Some o else None
 
--- the component that a name reaches from the document
-abbrev pub reached : World → ObjId → List ℕ → Option ObjId
-reached w document name = shown w document (held (property_in name (component w document)))
+-- the component that a path of names reaches from the document
+abbrev pub reached : World → ObjId → List (List ℕ) → Option ObjId
+reached w document path = shown w document (walked w (Some document) path)
 
--- a click on what a name has reached
-abbrev pub clicks : List ℕ → Option ObjId → World → Result (Unit {0})
-clicks name None w = Goes tt (note (Missed name) w)
-clicks name (Some o) w = send o (arrivals o (outer w o)) w
+-- a click on what a path has reached
+abbrev pub clicks : List (List ℕ) → Option ObjId → World → Result (Unit {0})
+clicks path None w = Goes tt (note (Missed (path_text path)) w)
+clicks path (Some o) w = send o (arrivals o (outer w o)) w
 
--- what a line of the script does
+-- what a line of the script does: no element is a text input, and no document has states
 abbrev pub does : ObjId → UserEvent → World → Result (Unit {0})
-does document (event.Click name line) w = clicks name (reached w document name) (note (User line) w)
+does document (event.Click path line) w = clicks path (reached w document path) (note (User line) w)
+does document (event.Write path text line) w = Goes tt (note (Missed (path_text path)) (note (User line) w))
+does document (event.State name line) w = Halts (Stopped UnknownState) (note (User line) w)
 
 abbrev pub do_all : ObjId → List UserEvent → World → Result (Unit {0})
 do_all document [] w = Goes tt w

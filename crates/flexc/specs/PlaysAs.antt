@@ -4,8 +4,8 @@ use Rattle.flex_front.specs.declared.document.Document.{Document}
 use Rattle.flexc.specs.Meaning.{source_trace}
 use Rattle.script_player.specs.Playable.{IsPlayable}
 use Rattle.script_player.specs.Playing.{HasTrace, NeverFaults}
-use Rattle.avm2_machine.specs.declared.event.UserEvent.{UserEvent}
-use Rattle.script_player.specs.Trace.{Story}
+use Rattle.flex_base.specs.declared.event.UserEvent.{UserEvent}
+use Rattle.flex_base.specs.Story.{Story}
 
 -- under every script and with every number of turns the file has the trace that the source means, has no other, and meets no fault
 pub record PlaysAs (bytes : List ℕ) (document : Document) : Type 0 where

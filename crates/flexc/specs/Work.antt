@@ -17,7 +17,7 @@ use Rattle.flexc.specs.Lines.{script_of, script_line}
 use Rattle.flexc.specs.Words.{AreWords, IsNoCommand, turns}
 use Rattle.script_player.specs.Printed.{HasPlayed, Plays}
 use Rattle.flex_front.specs.Source.{HasDocument, IsNotBuilt}
-use Rattle.avm2_machine.specs.declared.event.UserEvent.{UserEvent}
+use Rattle.flex_base.specs.declared.event.UserEvent.{UserEvent}
 use Rattle.flex_edge.specs.Whole.{MakesNone}
 
 -- why a file wasn't read, in the words of the command

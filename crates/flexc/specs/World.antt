@@ -1,6 +1,7 @@
 -- What the meaning of a source changes, and the operations on it.
 use Rattle.std.specs.Prelude.{ℕ, zero, suc, ◌+◌, ◌-◌, List, [], ◌∷◌, ◌++◌, length, if◌then◌else◌, nat_lt, Option, Some, None, slice_get}
 use Rattle.std.specs.Str.{bytes_eq}
+use Rattle.flex_base.specs.Lists.{entry, changed_entry}
 use Rattle.flex_base.specs.Value.{same}
 use Rattle.flex_base.specs.declared.outcome.Outcome.{Outcome}
 use Rattle.flex_base.specs.declared.outcome.Outcome.TheVariants.{Stopped, TurnsSpent}
@@ -10,13 +11,13 @@ use Rattle.flex_base.specs.declared.record.TraceItem.TheVariants.{Made, Written,
 use Rattle.flex_base.specs.declared.value.ObjId.{ObjId}
 use Rattle.flex_base.specs.declared.value.Value.{Value}
 use Rattle.avm2_machine.specs.declared.catalog.NativeClass.{NativeClass}
-use Rattle.avm2_machine.specs.Events.{ancestors}
+use Rattle.flex_base.specs.Events.{ancestors}
 
 -- what an object is: one of the main source, a component of a native class, or the event of a click
 pub data Kind : Type 0 where
   Main : Kind
   Native : (class : NativeClass) → Kind
-  Click : Kind
+  MouseEvent : Kind
 
 -- what a property holds: a text, or an object of a native class
 pub data Content : Type 0 where
@@ -104,12 +105,8 @@ take kind properties declared w =
 abbrev pub make : Kind → List ℕ → List Property → ℕ → World → Result ObjId
 make kind class properties declared w = bind (take kind properties declared w) (λ o w1. Goes o (note (Made o class) w1))
 
-abbrev pub numbered : List Component → ℕ → Option Component
-numbered objects zero = None
-numbered objects (suc n) = slice_get objects n
-
 abbrev pub component : World → ObjId → Option Component
-component w o = numbered w.objects o.0
+component w o = entry w.objects o.0
 
 -- the first property of a name
 abbrev pub property_named : List ℕ → List Property → Option Property
@@ -125,18 +122,8 @@ abbrev pub with_value : List ℕ → Value → List Property → List Property
 with_value name v [] = []
 with_value name v (p ∷ properties) = if bytes_eq p.name name then record p { value = v } ∷ properties else p ∷ with_value name v properties
 
--- the objects with one of them changed
-abbrev pub changed_at : (Component → Component) → List Component → ℕ → List Component
-changed_at f [] n = []
-changed_at f (c ∷ objects) zero = f c ∷ objects
-changed_at f (c ∷ objects) (suc n) = c ∷ changed_at f objects n
-
-abbrev pub changed : (Component → Component) → ℕ → List Component → List Component
-changed f zero objects = objects
-changed f (suc n) objects = changed_at f objects n
-
 abbrev pub stored : ObjId → List ℕ → Value → World → World
-stored o name v w = record w { objects = changed (λ c. record c { properties = with_value name v c.properties }) o.0 w.objects }
+stored o name v w = record w { objects = changed_entry (λ c. record c { properties = with_value name v c.properties }) w.objects o.0 }
 
 abbrev pub write_over : ObjId → List ℕ → Option Property → Value → World → World
 write_over o name None v w = w
@@ -151,10 +138,10 @@ child_count None = 0
 child_count (Some c) = length c.children
 
 abbrev pub with_last : ObjId → ObjId → World → World
-with_last parent child w = record w { objects = changed (λ c. record c { children = c.children ++ child ∷ [] }) parent.0 w.objects }
+with_last parent child w = record w { objects = changed_entry (λ c. record c { children = c.children ++ child ∷ [] }) w.objects parent.0 }
 
 abbrev pub with_parent : ObjId → ObjId → World → World
-with_parent parent child w = record w { objects = changed (λ c. record c { parent = Some parent }) child.0 w.objects }
+with_parent parent child w = record w { objects = changed_entry (λ c. record c { parent = Some parent }) w.objects child.0 }
 
 abbrev pub with_child : ObjId → ObjId → World → World
 with_child parent child w = with_parent parent child (with_last parent child w)
@@ -165,7 +152,7 @@ add parent child w = Goes tt (note (Added parent child (child_count (component w
 
 -- registers a listener behind those that an object has
 abbrev pub with_listener : ObjId → Listener → World → World
-with_listener o listener w = record w { objects = changed (λ c. record c { listeners = c.listeners ++ listener ∷ [] }) o.0 w.objects }
+with_listener o listener w = record w { objects = changed_entry (λ c. record c { listeners = c.listeners ++ listener ∷ [] }) w.objects o.0 }
 
 abbrev pub listen : ObjId → Listener → World → Result (Unit {0})
 listen o listener w = Goes tt (with_listener o listener w)

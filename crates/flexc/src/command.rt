@@ -17,7 +17,6 @@ use crate::emit::{MAIN, emit};
 use crate::script::{ScriptRefusal, read_script};
 use crate::words::{Run, read_words};
 use abc_format::write_abc;
-use avm2_machine::UserEvent;
 use flex_base::{Bytes, NoMemory, Outcome, Sequence, Text};
 use flex_edge::{Files, Observer, ReadRefusal, Sink, WriteRefusal, print, read_file, write_file};
 use flex_front::{Document, SourceRefusal, read_source};
@@ -72,7 +71,7 @@ enum Failure<'a> {
 #[derive(Drop)]
 struct Job {
     document: Document,
-    script: Sequence<UserEvent>,
+    script: Script,
 }
 
 /// Does what the words say: `run --script S --out O [--turns N] MAIN` builds the main source, writes

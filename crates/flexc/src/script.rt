@@ -2,11 +2,10 @@
 
 ghost use Rattle.std.specs.Prelude.{◌≡◌, ◌<◌, ◌≤◌, ◌==◌, [], ◌∷◌, length, Some, None, IfOk, IfSome, MatchOption};
 ghost use Rattle.std.specs.List.{position};
-ghost use Rattle.avm2_machine.specs.declared.event.UserEvent.TheVariants as event;
+ghost use Rattle.flex_base.specs.declared.event.UserEvent.TheVariants as event;
 ghost use Rattle.flexc.specs.Lines.{Puts, Reads, behind, is_idle, line_says, lines, more, said, text_says, without_return};
 
-use avm2_machine::UserEvent;
-use flex_base::{NoMemory, Sequence, Text};
+use flex_base::{Names, NoMemory, Script, Sequence, Text, UserEvent};
 use flex_front::is_name;
 use std::alloc::Global;
 
@@ -45,7 +44,7 @@ enum Line {
 /// lack it. Empty lines and lines that begin with `#` are skipped; `click NAME` is a click, where
 /// NAME is 1 to 32 lower-case letters and no keyword of ActionScript. No other line is known, nor is
 /// one that isn't UTF-8. This project's own.
-pub fn read_script(alloc: Global, script: &[u8]) -> Result<Sequence<UserEvent>, ScriptRefusal>
+pub fn read_script(alloc: Global, script: &[u8]) -> Result<Script, ScriptRefusal>
     requires { length script.now ≤ 1048576 }
     ensures { Reads script.now result }
 {
@@ -64,7 +63,7 @@ pub fn read_script(alloc: Global, script: &[u8]) -> Result<Sequence<UserEvent>, 
 // Adds what a line of this number says.
 fn put_line(
     alloc: Global,
-    events: &mut Sequence<UserEvent>,
+    events: &mut Script,
     line: &[u8],
     number: u32,
 ) -> Result<(), ScriptRefusal>
@@ -120,11 +119,12 @@ fn behind<'a>(text: &'a str, beginning: &str) -> Option<&'a str>
 
 // A click on what this names, by this line.
 fn click(alloc: Global, name: &str, line: &str) -> Result<UserEvent, NoMemory>
-    ensures { IfOk result (λ e. e ≡ event.Click name.now line.now) }
+    ensures { IfOk result (λ e. e ≡ event.Click (name.now ∷ []) line.now) }
 {
-    let name = Text::make(alloc, name)?;
+    let mut path = Names::new(alloc);
+    path.push(Text::make(alloc, name)?)?;
     let line = Text::make(alloc, line)?;
-    Ok(UserEvent::Click { name, line })
+    Ok(UserEvent::Click(path, line))
 }
 
 // The first line, where it ends at an LF, and what stands behind it.

@@ -5,7 +5,7 @@ use Rattle.std.specs.Int.{cast_signed, w32}
 use Rattle.std.proofs.lemmas.Bool.{lt-ltb}
 use Rattle.std.proofs.Math.Seq.{drop-append_seam}
 use Rattle.abc_format.specs.Grammar.{IsSpelledBy, IsU30, IsS32}
-use Rattle.abc_format.proofs.Spelled.{u32_at-append}
+use Rattle.abc_format.proofs.NumberLaws.{u32_at-append}
 use Rattle.script_player.specs.AbcReader.{done, behind_number, and_then, read_u32, read_u30, read_int}
 
 u32-front : (n : ℕ) (bytes : List ℕ) → IsSpelledBy n bytes → (rest : List ℕ) → read_u32 (bytes ++ rest) ≡ done n rest

@@ -12,8 +12,8 @@ use Rattle.abc_format.specs.Grammar as grammar
 use Rattle.abc_format.specs.declared.records.Abc.{Abc}
 use Rattle.abc_format.specs.declared.records.Multiname.TheVariants as multiname
 use Rattle.abc_format.specs.declared.records.TraitKind.TheVariants as trait_kind
-use Rattle.abc_format.proofs.Parts.{joined, variable-joined, pool-joined, method-joined, trait-joined, instance-joined, body-joined, abc-joined}
-use Rattle.abc_format.proofs.Related.{u30-spelled, int-spelled, table_count-spelled}
+use Rattle.abc_format.proofs.PartLaws.{joined, variable-joined, pool-joined, method-joined, trait-joined, instance-joined, body-joined, abc-joined}
+use Rattle.abc_format.proofs.SpellingLaws.{u30-spelled, int-spelled, table_count-spelled}
 use Rattle.script_player.specs.AbcLaws.{IsU30, IsList, IsInt, IsText, IsNamespace, IsMultiname, IsPool, IsMethod, IsItem, IsMetadata, IsTraitKind, IsTrait, IsInstance, IsClass, IsScript, IsBody, IsWritten}
 
 -- the written bytes stand for what is such

@@ -2,10 +2,10 @@
 use Rattle.std.proofs.Common.{◌≡◌, ℕ, zero, suc, List, Some, refl, sym, ap, ◌∙◌}
 use Rattle.abc_format.specs.declared.records.Abc.{Abc}
 use Rattle.flex_base.specs.declared.outcome.Outcome.{Outcome}
-use Rattle.avm2_machine.specs.declared.event.UserEvent.{UserEvent}
+use Rattle.flex_base.specs.declared.event.UserEvent.{UserEvent}
 use Rattle.avm2_machine.specs.declared.machine.Machine.{Machine}
 use Rattle.script_player.specs.Playing.{Play, opening, over, goes_from, next, played, ComesTo}
-use Rattle.script_player.specs.Trace.{Story}
+use Rattle.flex_base.specs.Story.{Story}
 
 module _ (abc : Abc) (main : List ℕ) where
   -- once the play is over, nothing changes

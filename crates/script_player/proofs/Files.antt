@@ -1,11 +1,11 @@
 -- What a file that is played says is determined by its bytes.
 use Rattle.std.proofs.Common.{◌≡◌, ℕ, List, Some, sym, ap, ◌∙◌, subst}
-use Rattle.avm2_machine.specs.declared.event.UserEvent.{UserEvent}
+use Rattle.flex_base.specs.declared.event.UserEvent.{UserEvent}
 use Rattle.script_player.specs.AbcReader.{read_abc}
 use Rattle.script_player.specs.Playable.{IsPlayable}
 use Rattle.script_player.specs.Playing.{boot, ComesTo, HasTrace}
 use Rattle.script_player.specs.SwfReader.{read_swf}
-use Rattle.script_player.specs.Trace.{Story}
+use Rattle.flex_base.specs.Story.{Story}
 use Rattle.script_player.proofs.AbcRead.{abc_is_read}
 use Rattle.script_player.proofs.Ends.{one_story}
 use Rattle.script_player.proofs.SwfRead.{swf_is_read}

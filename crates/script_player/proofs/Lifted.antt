@@ -5,7 +5,7 @@ use Rattle.flex_base.specs.declared.outcome.Outcome.{Outcome}
 use Rattle.flex_base.specs.declared.outcome.Outcome.TheVariants.{Ended}
 use Rattle.std.specs.Option.{option_or}
 use Rattle.std.specs.Prelude.{if◌then◌else◌}
-use Rattle.avm2_machine.specs.declared.event.UserEvent.{UserEvent}
+use Rattle.flex_base.specs.declared.event.UserEvent.{UserEvent}
 use Rattle.avm2_machine.specs.Machine.{idle, result_of}
 use Rattle.script_player.specs.Playing.{Config, Play, over, over_with, advance, advance_from, run, goes_on, goes_from, next, played}
 

@@ -5,7 +5,7 @@ use Rattle.abc_format.specs.declared.records.Abc.{Abc}
 use Rattle.flex_base.specs.Line.{outcome_line}
 use Rattle.flex_base.specs.declared.outcome.Outcome.{Outcome}
 use Rattle.flex_edge.specs.Outside.{Rose, SinkState}
-use Rattle.avm2_machine.specs.declared.event.UserEvent.{UserEvent}
+use Rattle.flex_base.specs.declared.event.UserEvent.{UserEvent}
 use Rattle.avm2_machine.specs.declared.machine.Machine.{Machine}
 use Rattle.flex_edge.specs.declared.output.WriteRefusal.{WriteRefusal}
 use Rattle.flex_edge.specs.declared.output.WriteRefusal.TheVariants as write
@@ -14,7 +14,7 @@ use Rattle.script_player.specs.Playable.{IsPlayable}
 use Rattle.script_player.specs.Playing.{boot, ComesTo, HasTrace}
 use Rattle.script_player.specs.Printed.{HasShown, HasPrinted, PrintsText, Plays}
 use Rattle.script_player.specs.SwfReader.{read_swf}
-use Rattle.script_player.specs.Trace.{Story, lines, text, with_end}
+use Rattle.flex_base.specs.Story.{Story, lines, text, with_end}
 use Rattle.flex_edge.specs.Whole.{HasTaken, Prints}
 use Rattle.script_player.proofs.Ends.{one_story}
 use Rattle.script_player.proofs.Files.{file_is_read, program_is_read, comes_alike}

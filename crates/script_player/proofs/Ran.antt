@@ -12,7 +12,7 @@ use Rattle.flex_edge.specs.declared.output.WriteRefusal.TheVariants as write
 use Rattle.avm2_machine.specs.Machine.{step, result_of}
 use Rattle.script_player.specs.Playing.{Config, and_item, moved_on, advance, advance_from, run, first}
 use Rattle.script_player.specs.Printed.{item_lines, HasRun, HasRunPart, Runs}
-use Rattle.script_player.specs.Trace.{record_line, lines}
+use Rattle.flex_base.specs.Story.{record_line, lines}
 use Rattle.flex_edge.specs.Whole.{HasTaken, Prints}
 
 -- the lines after one more step

@@ -11,14 +11,14 @@ use Rattle.flex_base.specs.declared.outcome.Outcome.TheVariants.{Ended}
 use Rattle.flex_base.specs.declared.record.TraceItem.{TraceItem}
 use Rattle.flex_edge.specs.Outside.{Rose, SinkState}
 use Rattle.flex_edge.specs.Calls.{SinkChanges}
-use Rattle.avm2_machine.specs.declared.event.UserEvent.{UserEvent}
+use Rattle.flex_base.specs.declared.event.UserEvent.{UserEvent}
 use Rattle.avm2_machine.specs.declared.machine.Machine.{Machine}
 use Rattle.flex_edge.specs.declared.output.WriteRefusal.{WriteRefusal}
 use Rattle.flex_edge.specs.declared.output.WriteRefusal.TheVariants as write
 use Rattle.avm2_machine.specs.Machine.{begins, idle, step, result_of}
 use Rattle.script_player.specs.Playing.{Config, Play, and_item, over, over_with, run, first, goes_on, goes_from, next, played, opening, ComesTo}
 use Rattle.script_player.specs.Printed.{HasRun, HasRunPart, Runs, HasShown, Shows}
-use Rattle.script_player.specs.Trace.{Story, record_line, lines, text, with_end}
+use Rattle.flex_base.specs.Story.{Story, record_line, lines, text, with_end}
 use Rattle.flex_edge.specs.Whole.{HasTaken}
 use Rattle.script_player.proofs.Ends.{stays}
 use Rattle.script_player.proofs.Lifted.{played_then, run_lifts}

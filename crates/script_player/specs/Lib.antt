@@ -5,4 +5,3 @@ pub mod Playing
 pub mod Printed
 pub mod SwfLaws
 pub mod SwfReader
-pub mod Trace

@@ -6,10 +6,10 @@ use Rattle.flex_base.specs.declared.outcome.Outcome.{Outcome}
 use Rattle.flex_base.specs.declared.outcome.Outcome.TheVariants.{Ended, Fault}
 use Rattle.flex_base.specs.declared.record.TraceItem.{TraceItem}
 use Rattle.avm2_machine.specs.declared.machine.Machine.{Machine}
-use Rattle.avm2_machine.specs.declared.event.UserEvent.{UserEvent}
+use Rattle.flex_base.specs.declared.event.UserEvent.{UserEvent}
 use Rattle.avm2_machine.specs.Machine.{Moved, start, begins, step, idle, result_of}
 use Rattle.script_player.specs.Playable.{IsPlayable}
-use Rattle.script_player.specs.Trace.{Story}
+use Rattle.flex_base.specs.Story.{Story}
 
 -- the machine between two steps, and the records so far
 pub record Config : Type 0 where

@@ -5,12 +5,12 @@ use Rattle.flex_base.specs.declared.outcome.Outcome.{Outcome}
 use Rattle.flex_base.specs.declared.record.TraceItem.{TraceItem}
 use Rattle.flex_edge.specs.Outside.{Rose, SinkState}
 use Rattle.flex_edge.specs.Calls.{SinkChanges}
-use Rattle.avm2_machine.specs.declared.event.UserEvent.{UserEvent}
+use Rattle.flex_base.specs.declared.event.UserEvent.{UserEvent}
 use Rattle.avm2_machine.specs.declared.machine.Machine.{Machine}
 use Rattle.flex_edge.specs.declared.output.WriteRefusal.{WriteRefusal}
 use Rattle.flex_edge.specs.declared.output.WriteRefusal.TheVariants as write
 use Rattle.script_player.specs.Playing.{first, run, ComesTo, HasTrace}
-use Rattle.script_player.specs.Trace.{Story, record_line, lines, text}
+use Rattle.flex_base.specs.Story.{Story, record_line, lines, text}
 use Rattle.flex_edge.specs.Whole.{HasTaken}
 
 -- the line of the record that a step made, if any

@@ -6,14 +6,14 @@ ghost use Rattle.avm2_machine.specs.Progress.{remaining};
 ghost use Rattle.script_player.specs.Playable.{IsPlayable};
 ghost use Rattle.script_player.specs.Playing.{ComesTo, boot};
 ghost use Rattle.script_player.specs.Printed.{Plays, PrintsText, Runs, Shows, item_lines};
-ghost use Rattle.script_player.specs.Trace.{record_line, with_end};
+ghost use Rattle.flex_base.specs.Story.{record_line, with_end};
 ghost use Rattle.flex_edge.specs.Whole.{Prints};
 
 use crate::abc_reader::{ReadFault, read_abc};
 use crate::swf_reader::read_swf;
 use abc_format::Abc;
-use avm2_machine::{Machine, UserEvent};
-use flex_base::{Bytes, Outcome, Text, TraceItem, line_of};
+use avm2_machine::Machine;
+use flex_base::{Bytes, Outcome, Text, TraceItem, UserEvent, line_of};
 use flex_edge::{Sink, WriteRefusal, print};
 use std::alloc::Global;
 

@@ -1,7 +1,7 @@
 use Rattle.std.proofs.Common.{◌≡◌, ◌++◌, map, take}
 use Rattle.std.specs.Prelude.{reverse}
-use Rattle.avm2_machine.specs.Events.{arrival}
-use Rattle.avm2_machine.specs.declared.dispatch.Phase.TheVariants.{Capture}
+use Rattle.flex_base.specs.Events.{arrival}
+use Rattle.flex_base.specs.declared.event.Phase.TheVariants.{Capture}
 use Rattle.avm2_machine.proofs.dispatch.put_capturing.Given as goal
 
 abbrev pub invariant-loop-node : goal.invariant-loop-node

@@ -1,7 +1,7 @@
 use Rattle.std.proofs.Common.{rules, ◌≡◌, None}
 use Rattle.std.specs.Result.{result_ok}
 use Rattle.flex_front.proofs.reading.body.Goals as goal
-use Rattle.flex_front.proofs.Documents.{not_valid, body_cases}
+use Rattle.flex_front.proofs.DocumentLaws.{not_valid, body_cases}
 
 pub returns-in_err-ok : goal.returns-in_err-ok
 returns-in_err-ok c =

@@ -1,5 +1,5 @@
 use Rattle.flex_front.proofs.reading.laws_of_sources.Goals as goal
-use Rattle.flex_front.proofs.Documents.{one_document, small_document, short_source}
+use Rattle.flex_front.proofs.DocumentLaws.{one_document, small_document, short_source}
 
 pub returns-clause-one : goal.returns-clause-one
 returns-clause-one c = one_document

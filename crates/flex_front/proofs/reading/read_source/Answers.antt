@@ -2,7 +2,7 @@ use Rattle.std.proofs.Common.{rules, ◌≡◌, Err}
 use Rattle.flex_front.specs.declared.document.Document.{Document}
 use Rattle.flex_front.specs.Source.{main_name}
 use Rattle.flex_front.proofs.reading.read_source.Goals as goal
-use Rattle.flex_front.proofs.Documents.{no_body, small_document, no_elements, document_is}
+use Rattle.flex_front.proofs.DocumentLaws.{no_body, small_document, no_elements, document_is}
 
 pub returns-in_default-clause-refused : goal.returns-in_default-clause-refused
 returns-in_default-clause-refused c = λ _. no_body _ _ c.in_default.ensures

@@ -3,7 +3,7 @@ use Rattle.flex_base.specs.Line.{outcome_line}
 use Rattle.flex_edge.specs.declared.output.WriteRefusal.TheVariants as write
 use Rattle.script_player.specs.Playing.{ComesTo, boot}
 use Rattle.script_player.specs.Printed.{HasShown}
-use Rattle.script_player.specs.Trace.{with_end}
+use Rattle.flex_base.specs.Story.{with_end}
 use Rattle.flex_edge.specs.Whole.{Prints}
 use Rattle.script_player.proofs.Played.{nothing_printed, whole_printed, end_printed}
 use Rattle.script_player.proofs.playing.play_program.Goals as goal

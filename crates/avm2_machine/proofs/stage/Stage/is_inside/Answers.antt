@@ -1,5 +1,5 @@
 use Rattle.std.proofs.Common.{◌≡◌, false, length, arith, rules, tests}
-use Rattle.avm2_machine.specs.Machine.{is_object}
+use Rattle.flex_base.specs.Value.{is_object}
 use Rattle.avm2_machine.specs.Stage.{parent}
 use Rattle.avm2_machine.proofs.Outward.{outward_passed}
 use Rattle.avm2_machine.proofs.stage.Stage.is_inside.Goals as goal

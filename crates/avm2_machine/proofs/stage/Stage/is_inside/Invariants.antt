@@ -1,7 +1,7 @@
 use Rattle.std.proofs.Common.{◌≡◌, ◌-◌, length}
 use Rattle.std.specs.List.{list_any}
-use Rattle.avm2_machine.specs.Events.{outward}
-use Rattle.avm2_machine.specs.Machine.{is_object}
+use Rattle.flex_base.specs.Events.{outward}
+use Rattle.flex_base.specs.Value.{is_object}
 use Rattle.avm2_machine.specs.Stage.{parent, outer}
 use Rattle.avm2_machine.proofs.stage.Stage.is_inside.Given as goal
 

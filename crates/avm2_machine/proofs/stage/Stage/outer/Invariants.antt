@@ -1,5 +1,5 @@
 use Rattle.std.proofs.Common.{◌≡◌, ◌++◌, ◌-◌, length}
-use Rattle.avm2_machine.specs.Events.{outward}
+use Rattle.flex_base.specs.Events.{outward}
 use Rattle.avm2_machine.specs.Stage.{parent, outer}
 use Rattle.avm2_machine.proofs.stage.Stage.outer.Given as goal
 
