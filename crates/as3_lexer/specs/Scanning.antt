@@ -1,8 +1,8 @@
 -- The longest match at the front of a text, by computing.
-use Rattle.std.specs.Prelude.{ℕ, suc, zero, ◌+◌, ◌-◌, ◌==◌, ◌&&◌, ◌||◌, not, nat_lt, nat_eq, Bool, true, false, List, [], ◌∷◌, length, take, drop, codes, Option, None, Some, cond, encode_utf8_all}
-use Rattle.std.specs.List.{list_all, prefix_len, take_while, starts_with}
+use Rattle.std.specs.Prelude.{ℕ, suc, zero, ◌+◌, ◌-◌, ◌==◌, ◌&&◌, ◌||◌, not, nat_lt, Bool, true, false, List, [], ◌∷◌, length, take, drop, codes, Option, None, Some, cond, encode_utf8}
+use Rattle.std.specs.List.{list_all, prefix_len}
 use Rattle.std.specs.Bool.{then_some}
-use Rattle.std.specs.Option.{option_map}
+use Rattle.std.specs.Option.{option_map, option_map_or}
 use Rattle.std.specs.Str.{chars}
 use Rattle.std.specs.Char.{is_ascii_digit, is_ascii_hexdigit}
 use Rattle.as3_lexer.specs.declared.keyword.Keyword.{Keyword}
@@ -22,10 +22,14 @@ behind [] text = Some text
 behind (byte ∷ front) [] = None
 behind (byte ∷ front) (first ∷ text) = cond (byte == first) (behind front text) None
 
+abbrev pub closing_place_or : Option (List ℕ) → Option ℕ → Option ℕ
+closing_place_or (Some _) later = Some 0
+closing_place_or None later = option_map (λ place. suc place) later
+
 -- the place of the first `*/`
 abbrev pub closing_place : List ℕ → Option ℕ
 closing_place [] = None
-closing_place (byte ∷ text) = cond (starts_with nat_eq (byte ∷ text) (codes "*/")) (Some 0) (option_map (λ place. place + 1) (closing_place text))
+closing_place (byte ∷ text) = closing_place_or (behind (codes "*/") (byte ∷ text)) (closing_place text)
 
 abbrev pub block_comment_len : Option (List ℕ) → Option ℕ
 block_comment_len None = None
@@ -44,11 +48,12 @@ gap_len text = cond (nat_lt 0 (prefix_len is_blank text)) (Some (prefix_len is_b
 
 -- the length of the characters at the front that continue a word
 abbrev pub continued_len : List ℕ → ℕ
-continued_len characters = length (encode_utf8_all (take_while continues_word characters))
+continued_len [] = 0
+continued_len (c ∷ cs) = cond (continues_word c) (length (encode_utf8 c) + continued_len cs) 0
 
 abbrev pub word_len_of : List ℕ → Option ℕ
 word_len_of [] = None
-word_len_of (c ∷ cs) = then_some (starts_word c) (length (encode_utf8_all (c ∷ take_while continues_word cs)))
+word_len_of (c ∷ cs) = then_some (starts_word c) (length (encode_utf8 c) + continued_len cs)
 
 -- the length of the word that begins a text
 abbrev pub word_len : List ℕ → Option ℕ
@@ -90,7 +95,7 @@ abbrev pub letters_len : ℕ → ℕ → List ℕ → ℕ
 letters_len quote (suc left) (byte ∷ bytes) = suc (letters_len quote left bytes)
 letters_len quote (suc left) [] = 0
 letters_len quote zero [] = 0
-letters_len quote zero (byte ∷ bytes) = elim (letter_len quote (byte ∷ bytes)) [ None ↦ 0 | Some len ↦ suc (letters_len quote (len - 1) bytes) ]
+letters_len quote zero (byte ∷ bytes) = option_map_or (λ len. suc (letters_len quote (len - 1) bytes)) (letter_len quote (byte ∷ bytes)) 0
 
 -- whether a byte begins these
 abbrev pub is_first : ℕ → List ℕ → Bool

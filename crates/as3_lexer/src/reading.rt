@@ -4,7 +4,7 @@ ghost use Rattle.std.specs.Prelude.{◌≡◌, ◌≤◌, ◌+◌, ℕ, IfOk, If
 ghost use Rattle.as3_lexer.specs.Tokens.{HasTokens, HasBadToken, start_of};
 ghost use Rattle.as3_lexer.specs.Laws.{IsReadable, IsReadOneWay, HasOneList, HasOneBadToken};
 
-use crate::scanning::match_of;
+use crate::scanning::{behind, match_of};
 use crate::token::{Token, TokenList};
 use flex_base::NoMemory;
 use std::alloc::Global;
@@ -57,7 +57,7 @@ pub fn tokens(alloc: Global, text: &str) -> Result<TokenList, LexRefusal>
 fn behind_mark(text: &str) -> &str
     ensures { result.now ≡ drop (start_of text.now) text.now }
 {
-    text.strip_prefix('\u{feff}').unwrap_or(text)
+    behind(text, "\u{feff}").unwrap_or(text)
 }
 
 /// A text has tokens or a bad token, and not both; it has one list of tokens, and one place of its

@@ -44,7 +44,8 @@ fn comment_len(text: &str) -> Option<usize>
 
 // How many bytes stand before the first line end.
 fn line_len(text: &[u8]) -> usize
-    ensures { result ≡ prefix_len is_in_line text.now }
+    ensures value { result ≡ prefix_len is_in_line text.now }
+    ensures within { result ≤ length text.now }
 {
     text.iter().take_while(|byte| **byte != b'\n').count()
 }

@@ -1,6 +1,6 @@
 // Numbers.
 
-ghost use Rattle.std.specs.Prelude.{◌≡◌, codes};
+ghost use Rattle.std.specs.Prelude.{◌≡◌, ◌≤◌, codes, length};
 ghost use Rattle.std.specs.List.{prefix_len};
 ghost use Rattle.std.specs.Char.{is_ascii_digit, is_ascii_hexdigit};
 ghost use Rattle.as3_lexer.specs.Scanning.{behind, hexadecimal_len, number_len};
@@ -36,7 +36,8 @@ fn digits_len(text: &[u8]) -> usize
 
 // How many bytes at the front of a text are hexadecimal digits.
 fn hexadecimal_digits_len(text: &[u8]) -> usize
-    ensures { result ≡ prefix_len is_ascii_hexdigit text.now }
+    ensures value { result ≡ prefix_len is_ascii_hexdigit text.now }
+    ensures within { result ≤ length text.now }
 {
     text.iter()
         .take_while(|byte| byte.is_ascii_hexdigit())

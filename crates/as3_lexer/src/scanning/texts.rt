@@ -1,10 +1,8 @@
 // Texts in quotation marks.
 
-ghost use Rattle.std.specs.Prelude.{◌≡◌, ◌≤◌, ◌+◌, ◌∷◌, [], IfSome, length};
-ghost use Rattle.std.specs.Prelude.{◌<◌};
-ghost use Rattle.std.specs.Bool.{then_some};
+ghost use Rattle.std.specs.Prelude.{◌≡◌, ◌≤◌, ◌<◌, ◌+◌, ◌∷◌, true, [], IfSome, length};
 ghost use Rattle.std.specs.Char.{digit_value, is_ascii_hexdigit};
-ghost use Rattle.as3_lexer.specs.Forms.{is_plain};
+ghost use Rattle.as3_lexer.specs.Forms.{code_of, is_plain, is_surrogate};
 ghost use Rattle.as3_lexer.specs.Scanning.{are_four_digits, are_two_digits, escape_len, is_quote, letter_len, letters_len, text_len};
 
 // The length of the text in quotation marks that begins here.
@@ -98,17 +96,35 @@ fn are_four_digits(text: &[u8]) -> bool
 fn is_code(a: u8, b: u8, c: u8, d: u8) -> bool
     ensures { result ≡ are_four_digits (a ∷ b ∷ c ∷ d ∷ []) }
 {
-    let (Some(a), Some(b), Some(c), Some(d)) = (value(a), value(b), value(c), value(d)) else {
-        return false;
-    };
-    let code = ((a * 16 + b) * 16 + c) * 16 + d;
-    !(0xD800..=0xDFFF).contains(&code)
+    a.is_ascii_hexdigit()
+        && b.is_ascii_hexdigit()
+        && c.is_ascii_hexdigit()
+        && d.is_ascii_hexdigit()
+        && !is_surrogate(a, b, c, d)
+}
+
+// Whether four hexadecimal digits name a surrogate.
+fn is_surrogate(a: u8, b: u8, c: u8, d: u8) -> bool
+    requires a { is_ascii_hexdigit a ≡ true }
+    requires b { is_ascii_hexdigit b ≡ true }
+    requires c { is_ascii_hexdigit c ≡ true }
+    requires d { is_ascii_hexdigit d ≡ true }
+    ensures { result ≡ is_surrogate (code_of a b c d) }
+{
+    let code = ((value(a) * 16 + value(b)) * 16 + value(c)) * 16 + value(d);
+    0xD800 <= code && code <= 0xDFFF
 }
 
 // The value of a hexadecimal digit.
-fn value(digit: u8) -> Option<u32>
-    ensures value { result ≡ then_some (is_ascii_hexdigit digit) (digit_value digit) }
-    ensures small { IfSome result (λ value. value < 16) }
+fn value(digit: u8) -> u32
+    requires { is_ascii_hexdigit digit ≡ true }
+    ensures value { result ≡ digit_value digit }
+    ensures small { result < 16 }
 {
-    (digit as char).to_digit(16)
+    match digit {
+        b'0'..=b'9' => u32::from(digit - b'0'),
+        b'A'..=b'F' => u32::from(digit - b'A') + 10,
+        b'a'..=b'f' => u32::from(digit - b'a') + 10,
+        _ => unreachable!(),
+    }
 }
