@@ -7,7 +7,7 @@ use Rattle.std.specs.Str.Pattern.{FindsText, FindsTextPrefix, StripsPrefix, HasT
 use Rattle.std.proofs.lemmas.Bool.Decides.{nat_tests}
 use Rattle.as3_lexer.specs.Scanning.{behind, closing_place, closing_place_or}
 
-same_byte : (a b : ℕ) → (a == b) ≡ true → a ≡ b
+pub same_byte : (a b : ℕ) → (a == b) ≡ true → a ≡ b
 same_byte a b same = grind (arith, nat_tests)
 
 itself : (a : ℕ) → (a == a) ≡ true
