@@ -10,3 +10,4 @@ pub mod Marks
 pub mod Texts
 pub mod Matches
 pub mod Readings
+pub mod Laws

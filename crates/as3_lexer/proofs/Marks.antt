@@ -301,7 +301,7 @@ starts_front (byte ∷ front) back = rw (itself byte) (starts_front front back)
     itself : (a : ℕ) → nat_eq a a ≡ true
     itself a = grind (arith, nat_tests)
 
-starts_gives : (front text : List ℕ) → starts_with nat_eq text front ≡ true → (back : List ℕ) × (text ≡ front ++ back)
+pub starts_gives : (front text : List ℕ) → starts_with nat_eq text front ≡ true → (back : List ℕ) × (text ≡ front ++ back)
 starts_gives [] text is = (text, refl)
 starts_gives (byte ∷ front) [] is = cc
 starts_gives (byte ∷ front) (first ∷ text) is =

@@ -1,18 +1,19 @@
 -- The reading of a text: it is there, and there is one.
 use Rattle.std.proofs.Common.{◌≡◌, ℕ, zero, suc, ◌+◌, ◌-◌, ◌<◌, ◌≤◌, List, [], ◌∷◌, ◌++◌, length, take, drop, Option, Some, None, inl, inr, refl, ap, sym, ◌∙◌, subst, arith, length-append, append_assoc}
-use Rattle.std.specs.Prelude.{◌⊎◌, IsUtf8, encode_utf8, encode_utf8_all}
+use Rattle.std.specs.Str.{IsCharBoundary}
+use Rattle.std.specs.Prelude.{◌⊎◌, IsUtf8, MatchOption, encode_utf8, encode_utf8_all}
 use Rattle.as3_lexer.specs.declared.token.Token.{Token}
 use Rattle.as3_lexer.specs.declared.token.TokenKind.{TokenKind}
 use Rattle.as3_lexer.specs.declared.token.TokenKind.TheVariants as kind
 use Rattle.as3_lexer.specs.declared.scanning.Match.{Match}
 use Rattle.as3_lexer.specs.Forms.{IsGap, IsWord, IsNumber, IsText, IsToken}
 use Rattle.as3_lexer.specs.Tokens.{IsPiece, IsMatch, IsLongest, NothingBegins, Piece, AreMatches, token_before, tokens_at}
-use Rattle.as3_lexer.specs.Scanning.{match_of}
+use Rattle.as3_lexer.specs.Scanning.{match_of, Begins}
 use Rattle.as3_lexer.proofs.Cuts.{same_front}
 use Rattle.as3_lexer.proofs.Keywords.{keyword_word}
 use Rattle.as3_lexer.proofs.Marks.{mark_begins}
 use Rattle.as3_lexer.proofs.Matches.{Matches, match_found, Covered, match_covered}
-use Rattle.std.proofs.lemmas.Str.{length-encode, len_utf8_bounds}
+use Rattle.std.proofs.lemmas.Str.{length-encode, len_utf8_bounds, IsCharBoundary-at_seam}
 
 -- a piece has a byte
 word_some : (bytes : List ℕ) → IsWord bytes → 1 ≤ length bytes
@@ -34,16 +35,6 @@ piece_some (Some kind.Text) bytes (inl form) = let long = ap length form.is in o
 piece_some (Some kind.Text) bytes (inr form) = let long = ap length form.is in omega (arith, long)
 piece_some (Some (kind.Mark m)) bytes form = let long = ap length (form ∙ (mark_begins m).is) in omega (arith, long)
 
--- the longest match at the front of a text
-pub record Reads (m : Match) (text : List ℕ) : Type 0 where
-  pub front : List ℕ
-  pub back : List ℕ
-  pub is : text ≡ front ++ back
-  pub long : length front ≡ m.len
-  pub some : 1 ≤ m.len
-  pub longest : IsLongest m.kind front back
-  pub utf8 : IsUtf8 back
-
 covers : (text : List ℕ) → IsUtf8 text → (m : Match) → match_of text ≡ Some m → (other : Option TokenKind) (front back : List ℕ) → text ≡ front ++ back → IsMatch other front back → length front ≤ m.len
 covers text utf8 m is other front back splits form =
     let best = match_covered other front back (subst IsUtf8 splits utf8) form in
@@ -52,7 +43,7 @@ covers text utf8 m is other front back splits form =
     subst (λ x. length front ≤ x.len) (sym one) best.longest
 
 -- what is found is the longest
-pub reads : (text : List ℕ) → IsUtf8 text → (m : Match) → match_of text ≡ Some m → Reads m text
+pub reads : (text : List ℕ) → IsUtf8 text → (m : Match) → match_of text ≡ Some m → Begins m text
 reads text utf8 m is =
     let here = match_found text utf8 m is in
     let long = here.long in
@@ -63,6 +54,8 @@ reads text utf8 m is =
       is = here.is;
       long = here.long;
       some = omega (arith, long, some);
+      within = (let size = ap length here.is ∙ length-append here.front here.back in omega (arith, size, long));
+      boundary = subst (IsCharBoundary text) long (IsCharBoundary-at_seam text here.front here.back here.is here.utf8);
       longest = record {
         match_ = here.form;
         longest = λ other front back same form. (let less = covers text utf8 m is other front back (here.is ∙ same) form in omega (arith, less, long));
@@ -105,6 +98,12 @@ same_piece one other front rest back behind utf8 same first second =
     let cut = same_front here.front front here.back rest (sym here.is) (long ∙ sym a_long) in
     record { kinds = kinds; fronts = parts.0; rests = parts.1; utf8 = subst IsUtf8 cut.1 here.utf8 }
 
+abbrev make_piece : Option TokenKind → List ℕ → Piece
+make_piece kind bytes = record { kind = kind; bytes = bytes }
+
+same_record : (a b : Piece) → a.kind ≡ b.kind → a.bytes ≡ b.bytes → a ≡ b
+same_record a b kinds fronts = ap (λ k. make_piece k a.bytes) kinds ∙ ap (λ t. make_piece b.kind t) fronts
+
 -- nothing goes on
 abbrev pub Ends : List ℕ → Type 0
 Ends rest = (rest ≡ []) ⊎ NothingBegins rest
@@ -126,7 +125,7 @@ same_pieces (piece ∷ one) (that ∷ other) text rest more utf8 (others, splits
     let tails = same_pieces one other others rest more same.utf8 next (subst (λ t. AreMatches other t more) (sym same.rests) later) ends also in
     let kinds = same.kinds in
     let fronts = same.fronts in
-    let heads : piece ≡ that = cc in
+    let heads = same_record piece that kinds fronts in
     (ap (λ p. p ∷ one) heads ∙ ap (λ ps. that ∷ ps) tails.0, tails.1)
 
 -- a text is read up to where nothing goes on
@@ -192,3 +191,33 @@ end_is at (piece ∷ pieces) text rest (others, splits, longest, next) =
     let more = end_is (at + length piece.bytes) pieces others rest next in
     let long = ap length splits ∙ length-append piece.bytes others in
     omega (arith, more, long)
+
+-- the tokens so far, and the rest of a text that was begun
+pub record Progress (text : List ℕ) (start : ℕ) (tokens : List Token) (rest : List ℕ) : Type 0 where
+  pub pieces : List Piece
+  pub are : AreMatches pieces text rest
+  pub tokens_are : tokens ≡ tokens_at start pieces
+  pub utf8 : IsUtf8 rest
+
+pub begun : (text : List ℕ) (start : ℕ) → IsUtf8 text → Progress text start [] text
+begun text start utf8 = record { pieces = []; are = refl; tokens_are = refl; utf8 = utf8 }
+
+-- one match more
+pub one_more : (text : List ℕ) (start : ℕ) (tokens : List Token) (rest : List ℕ) (m : Match) → (so_far : Progress text start tokens rest) → (here : Begins m rest)
+    → Progress text start (tokens ++ token_before m.kind (end_of start so_far.pieces) (end_of start so_far.pieces + m.len) []) here.back
+one_more text start tokens rest m so_far here =
+    let piece = make_piece m.kind here.front in
+    record {
+      pieces = so_far.pieces ++ make_piece m.kind here.front ∷ [];
+      are = matches_more so_far.pieces text m.kind here.front here.back (subst (AreMatches so_far.pieces text) here.is so_far.are) here.longest;
+      tokens_are =
+          ap (λ t. t ++ token_before m.kind (end_of start so_far.pieces) (end_of start so_far.pieces + m.len) []) so_far.tokens_are
+          ∙ ap (λ n. tokens_at start so_far.pieces ++ token_before m.kind (end_of start so_far.pieces) (end_of start so_far.pieces + n) []) (sym here.long)
+          ∙ sym (tokens_append start so_far.pieces (make_piece m.kind here.front ∷ []));
+      utf8 = here.utf8;
+    }
+
+-- what is answered at the front of a text
+pub match_cases : (text : List ℕ) → IsUtf8 text → (r : Option Match) → r ≡ match_of text → MatchOption r (NothingBegins text) (λ m. Begins m text)
+match_cases text utf8 None is = reads_nothing text utf8 (sym is)
+match_cases text utf8 (Some m) is = reads text utf8 m (sym is)

@@ -1,15 +1,16 @@
 -- The longest match at the front of a text, by computing.
-use Rattle.std.specs.Prelude.{ℕ, suc, zero, ◌+◌, ◌-◌, ◌==◌, ◌&&◌, ◌||◌, not, nat_lt, Bool, true, false, List, [], ◌∷◌, length, take, drop, codes, Option, None, Some, cond, encode_utf8}
+use Rattle.std.specs.Prelude.{◌≡◌, ℕ, ◌≤◌, ◌++◌, suc, zero, ◌+◌, ◌-◌, ◌==◌, ◌&&◌, ◌||◌, not, nat_lt, Bool, true, false, List, [], ◌∷◌, length, take, drop, codes, Option, None, Some, cond, encode_utf8}
 use Rattle.std.specs.List.{list_all, prefix_len}
 use Rattle.std.specs.Bool.{then_some}
 use Rattle.std.specs.Option.{option_map, option_map_or}
-use Rattle.std.specs.Str.{chars}
+use Rattle.std.specs.Str.{chars, IsUtf8, IsCharBoundary}
 use Rattle.std.specs.Char.{is_ascii_digit, is_ascii_hexdigit}
 use Rattle.as3_lexer.specs.declared.keyword.Keyword.{Keyword}
 use Rattle.as3_lexer.specs.declared.token.TokenKind.{TokenKind}
 use Rattle.as3_lexer.specs.declared.token.TokenKind.TheVariants as kind
 use Rattle.as3_lexer.specs.declared.scanning.Match.{Match}
 use Rattle.as3_lexer.specs.Spelling.{keyword_of, mark_of, mark_spelling}
+use Rattle.as3_lexer.specs.Tokens.{IsLongest}
 use Rattle.as3_lexer.specs.Forms.{is_blank, is_in_line, starts_word, continues_word, is_plain, is_escaped, code_of, is_surrogate}
 
 -- a length, unless it is 0
@@ -148,3 +149,15 @@ or_word None text = or_number (word_len text) text
 -- the longest match at the front of a text
 abbrev pub match_of : List ℕ → Option Match
 match_of text = or_word (gap_len text) text
+
+-- what was found is the longest match at the front of a text, which may be cut behind it
+pub record Begins (m : Match) (text : List ℕ) : Type 0 where
+  pub front : List ℕ
+  pub back : List ℕ
+  pub is : text ≡ front ++ back
+  pub long : length front ≡ m.len
+  pub some : 1 ≤ m.len
+  pub within : m.len ≤ length text
+  pub longest : IsLongest m.kind front back
+  pub utf8 : IsUtf8 back
+  pub boundary : IsCharBoundary text m.len

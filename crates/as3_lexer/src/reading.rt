@@ -4,7 +4,7 @@ ghost use Rattle.std.specs.Prelude.{◌≡◌, ◌≤◌, ◌+◌, ℕ, IfOk, If
 ghost use Rattle.as3_lexer.specs.Tokens.{HasTokens, HasBadToken, start_of};
 ghost use Rattle.as3_lexer.specs.Laws.{IsReadable, IsReadOneWay, HasOneList, HasOneBadToken};
 
-use crate::scanning::{behind, match_of};
+use crate::scanning::{behind, longest_match};
 use crate::token::{Token, TokenList};
 use flex_base::NoMemory;
 use std::alloc::Global;
@@ -41,7 +41,7 @@ pub fn tokens(alloc: Global, text: &str) -> Result<TokenList, LexRefusal>
     let mut rest = behind_mark(text);
     while !rest.is_empty() {
         let start = text.len() - rest.len();
-        let Some(found) = match_of(rest) else {
+        let Some(found) = longest_match(rest) else {
             return Err(LexRefusal::BadToken(start));
         };
         if let Some(kind) = found.kind {

@@ -1,8 +1,9 @@
 // The longest match at the front of a text.
 
-ghost use Rattle.std.specs.Prelude.{◌≡◌, take, option_map};
+ghost use Rattle.std.specs.Prelude.{◌≡◌, MatchOption};
+ghost use Rattle.as3_lexer.specs.Tokens.{NothingBegins};
 ghost use Rattle.as3_lexer.specs.Spelling.{keyword_of};
-ghost use Rattle.as3_lexer.specs.Scanning.{match_of, mark_match, word_kind};
+ghost use Rattle.as3_lexer.specs.Scanning.{Begins, match_of, mark_match, word_kind};
 
 mod gaps;
 mod numbers;
@@ -28,7 +29,14 @@ pub struct Match {
 }
 
 // The longest match at the front of a text.
-pub fn match_of(text: &str) -> Option<Match>
+pub fn longest_match(text: &str) -> Option<Match>
+    ensures { MatchOption result (NothingBegins text.now) (λ found. Begins found text.now) }
+{
+    match_of(text)
+}
+
+// The same, by the forms of the matches.
+fn match_of(text: &str) -> Option<Match>
     ensures { result ≡ match_of text.now }
 {
     if let Some(len) = gap_len(text) {
