@@ -1,13 +1,17 @@
 -- A text has tokens, or a place where none begins, and not both.
-use Rattle.std.proofs.Common.{◌≡◌, ℕ, zero, suc, ◌+◌, ◌-◌, ◌<◌, ◌≤◌, List, [], ◌∷◌, ◌++◌, length, take, drop, Option, Some, None, Bool, true, false, cond, inl, inr, refl, ap, sym, ◌∙◌, subst, arith, length-append, length-drop}
+use Rattle.std.proofs.Common.{◌≡◌, ℕ, zero, suc, ◌+◌, ◌-◌, ◌<◌, ◌≤◌, List, [], ◌∷◌, ◌++◌, length, take, drop, Option, Some, None, Bool, true, false, cond, inl, inr, refl, ap, sym, ◌∙◌, subst, arith, length-append, append-nil}
 use Rattle.std.specs.Prelude.{◌⊎◌, IsUtf8, encode_utf8, nat_eq}
 use Rattle.std.specs.List.{starts_with}
 use Rattle.std.proofs.lemmas.Str.{IsUtf8-past_char}
 use Rattle.as3_lexer.specs.declared.token.Token.{Token}
-use Rattle.as3_lexer.specs.Tokens.{Piece, AreMatches, NothingBegins, tokens_at, byte_order_mark, start_of, HasTokens, HasBadToken}
+use Rattle.as3_lexer.specs.Tokens.{Piece, AreMatches, NothingBegins, token_before, tokens_at, byte_order_mark, start_of, HasTokens, HasBadToken}
+use Rattle.as3_lexer.specs.declared.token.TokenKind.{TokenKind}
+use Rattle.as3_lexer.specs.declared.scanning.Match.{Match}
+use Rattle.as3_lexer.specs.Scanning.{Begins}
+use Rattle.std.proofs.Math.Seq.{drop-append_seam}
 use Rattle.as3_lexer.specs.Laws.{IsReadable, IsReadOneWay, HasOneList, HasOneBadToken}
 use Rattle.as3_lexer.proofs.Marks.{starts_gives}
-use Rattle.as3_lexer.proofs.Readings.{Reading, reading, same_pieces, matches_long}
+use Rattle.as3_lexer.proofs.Readings.{Reading, reading, same_pieces, matches_long, end_of, end_is, Progress, one_more}
 use lib.Utf8.{encode}
 
 mark_spelled : encode_utf8 0xFEFF ≡ byte_order_mark
@@ -72,3 +76,56 @@ has_one_bad_token text one other utf8 first second =
     let here = first.stands in
     let there = second.stands in
     omega (arith, long, here, there)
+
+-- ---- the reading as it goes on
+
+abbrev pub IsSoFar : List ℕ → List Token → List ℕ → Type 0
+IsSoFar text tokens rest = Progress (drop (start_of text) text) (start_of text) tokens rest
+
+pub rest_fits : (text : List ℕ) (tokens : List Token) (rest : List ℕ) → IsSoFar text tokens rest → length rest ≤ length text
+rest_fits text tokens rest so_far =
+    let less = matches_long so_far.pieces (drop (start_of text) text) rest so_far.are in
+    let long = begin_long text in
+    omega (arith, less, long)
+
+-- nothing begins at the rest
+pub is_bad : (text : List ℕ) (tokens : List Token) (rest : List ℕ) (place : ℕ) → IsSoFar text tokens rest → NothingBegins rest → 1 ≤ length rest → length text - length rest ≡ place → HasBadToken text place
+is_bad text tokens rest place so_far nothing more is =
+    let fits = rest_fits text tokens rest so_far in
+    record { pieces = so_far.pieces; rest = rest; before = so_far.are; nothing = nothing; more = more; stands = omega (arith, fits, is) }
+
+-- nothing is left
+pub are_all : (text : List ℕ) (tokens : List Token) (rest : List ℕ) → IsSoFar text tokens rest → length rest ≡ 0 → HasTokens text tokens
+are_all text tokens [] so_far none = record { pieces = so_far.pieces; all = so_far.are; are = so_far.tokens_are }
+are_all text tokens (byte ∷ rest) so_far none = absurd (omega arith)
+
+-- a match begins there
+goes_on : (text : List ℕ) (tokens : List Token) (rest : List ℕ) (m : Match) → IsSoFar text tokens rest → Begins m rest
+    → IsSoFar text (tokens ++ token_before m.kind (length text - length rest) (length text - length rest + m.len) []) (drop m.len rest)
+goes_on text tokens rest m so_far here =
+    let next = one_more (drop (start_of text) text) (start_of text) tokens rest m so_far here in
+    let ends = end_is (start_of text) so_far.pieces (drop (start_of text) text) rest so_far.are in
+    let long = begin_long text in
+    let place : end_of (start_of text) so_far.pieces ≡ length text - length rest = omega (arith, ends, long) in
+    let behind : here.back ≡ drop m.len rest = sym (ap (λ n. drop n rest) (sym here.long) ∙ ap (drop (length here.front)) here.is ∙ drop-append_seam here.front here.back) in
+    subst (IsSoFar text (tokens ++ token_before m.kind (length text - length rest) (length text - length rest + m.len) [])) behind
+    (subst (λ n. IsSoFar text (tokens ++ token_before m.kind n (n + m.len) []) here.back) place next)
+
+-- white space or a comment
+pub behind_gap : (text : List ℕ) (tokens after : List Token) (rest left : List ℕ) (m : Match) → IsSoFar text tokens rest → Begins m rest → m.kind ≡ None
+    → after ≡ tokens → left ≡ drop m.len rest → IsSoFar text after left
+behind_gap text tokens after rest left m so_far here gap stay is =
+    let next = goes_on text tokens rest m so_far here in
+    let same : after ≡ tokens ++ token_before m.kind (length text - length rest) (length text - length rest + m.len) [] = stay ∙ sym (append-nil tokens) ∙ sym (ap (λ k. tokens ++ token_before k (length text - length rest) (length text - length rest + m.len) []) gap) in
+    subst (λ ts. IsSoFar text ts left) (sym same) 
+    (subst (IsSoFar text (tokens ++ token_before m.kind (length text - length rest) (length text - length rest + m.len) [])) (sym is) next)
+
+-- a token
+pub behind_token : (text : List ℕ) (tokens after : List Token) (rest left : List ℕ) (m : Match) (kind : TokenKind) → IsSoFar text tokens rest → Begins m rest → m.kind ≡ Some kind
+    → after ≡ tokens ++ record { start = length text - length rest; end = length text - length rest + m.len; kind = kind } ∷ [] → left ≡ drop m.len rest → IsSoFar text after left
+behind_token text tokens after rest left m kind so_far here token more is =
+    let next = goes_on text tokens rest m so_far here in
+    let same : after ≡ tokens ++ token_before m.kind (length text - length rest) (length text - length rest + m.len) [] =
+    more ∙ sym (ap (λ k. tokens ++ token_before k (length text - length rest) (length text - length rest + m.len) []) token) in
+    subst (λ ts. IsSoFar text ts left) (sym same)
+    (subst (IsSoFar text (tokens ++ token_before m.kind (length text - length rest) (length text - length rest + m.len) [])) (sym is) next)
