@@ -57,7 +57,7 @@ reads text utf8 m is =
       within = (let size = ap length here.is ∙ length-append here.front here.back in omega (arith, size, long));
       boundary = subst (IsCharBoundary text) long (IsCharBoundary-at_seam text here.front here.back here.is here.utf8);
       longest = record {
-        match_ = here.form;
+        matches = here.form;
         longest = λ other front back same form. (let less = covers text utf8 m is other front back (here.is ∙ same) form in omega (arith, less, long));
       };
       utf8 = here.utf8;
@@ -80,14 +80,14 @@ record SamePiece (one other : Option TokenKind) (front rest back behind : List �
 same_piece : (one other : Option TokenKind) (front rest back behind : List ℕ) → IsUtf8 (front ++ rest) → front ++ rest ≡ back ++ behind → IsLongest one front rest → IsLongest other back behind
     → SamePiece one other front rest back behind
 same_piece one other front rest back behind utf8 same first second =
-    let a = match_covered one front rest utf8 first.match_ in
-    let b = match_covered other back behind (subst IsUtf8 same utf8) second.match_ in
+    let a = match_covered one front rest utf8 first.matches in
+    let b = match_covered other back behind (subst IsUtf8 same utf8) second.matches in
     let best : Some a.best ≡ Some b.best = sym a.is ∙ ap match_of same ∙ b.is in
     let one_best : a.best ≡ b.best = cc in
     let here = match_found (front ++ rest) utf8 a.best a.is in
     let less = first.longest a.best.kind here.front here.back here.is here.form in
-    let more = first.longest other back behind same second.match_ in
-    let back_less = second.longest one front rest (sym same) first.match_ in
+    let more = first.longest other back behind same second.matches in
+    let back_less = second.longest one front rest (sym same) first.matches in
     let long = here.long in
     let least = a.longest in
     let a_long : length front ≡ a.best.len = omega (arith, less, long, least) in
@@ -110,10 +110,10 @@ Ends rest = (rest ≡ []) ⊎ NothingBegins rest
 
 ends_none : (rest front back : List ℕ) (kind : Option TokenKind) → Ends rest → rest ≡ front ++ back → IsLongest kind front back → ⊥
 ends_none rest front back kind (inl none) splits longest =
-    let some = piece_some kind front longest.match_.piece in
+    let some = piece_some kind front longest.matches.piece in
     let long = ap length (sym none ∙ splits) ∙ length-append front back in
     omega (arith, some, long)
-ends_none rest front back kind (inr nothing) splits longest = nothing kind front back splits longest.match_
+ends_none rest front back kind (inr nothing) splits longest = nothing kind front back splits longest.matches
 
 -- the pieces of a text, up to where nothing goes on, are the same
 pub same_pieces : (one other : List Piece) (text rest more : List ℕ) → IsUtf8 text → AreMatches one text rest → AreMatches other text more → Ends rest → Ends more → (one ≡ other) × (rest ≡ more)

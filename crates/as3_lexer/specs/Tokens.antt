@@ -18,7 +18,7 @@ pub record IsMatch (kind : Option TokenKind) (bytes others : List ℕ) : Type 0 
 
 -- of what matches at the front of a text, nothing is longer
 pub record IsLongest (kind : Option TokenKind) (bytes others : List ℕ) : Type 0 where
-  pub match_ : IsMatch kind bytes others
+  pub matches : IsMatch kind bytes others
   pub longest : (other : Option TokenKind) (front back : List ℕ) → bytes ++ others ≡ front ++ back → IsMatch other front back → length front ≤ length bytes
 
 -- no token, white space or comment begins a text
