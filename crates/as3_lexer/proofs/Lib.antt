@@ -1,0 +1,13 @@
+pub mod Cuts
+pub mod Fronts
+pub mod Letters
+pub mod Characters
+pub mod Gaps
+pub mod Numbers
+pub mod Words
+pub mod Keywords
+pub mod Marks
+pub mod Texts
+pub mod Matches
+pub mod Readings
+pub mod Laws

@@ -1,0 +1,5 @@
+pub mod Spelling
+pub mod Forms
+pub mod Tokens
+pub mod Scanning
+pub mod Laws
