@@ -1,3 +1,4 @@
+pub mod Feeding
 pub mod NamedFiles
 pub mod Told
 pub mod Whole

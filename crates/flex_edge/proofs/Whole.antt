@@ -1,20 +1,10 @@
--- A whole read, a whole write and a print, after some of their calls.
+-- A whole write and a print, after some of their calls.
 use Rattle.std.proofs.Common.{◌≡◌, ℕ, ◌<◌, ◌≤◌, List, [], ◌∷◌, ◌++◌, length, take, drop, None, Some, Ok, refl, sym, ap, ◌∙◌, arith, append_assoc}
 use Rattle.std.proofs.lemmas.List.{take-append-drop, take-take, length-take}
 use Rattle.std.proofs.lemmas.Option.{MatchOption-at_some}
 use Rattle.flex_edge.specs.Outside.{FilesState, SinkState}
 use Rattle.flex_edge.specs.Calls.{SameCounts, Changes, SinkChanges, TakenCount, Writes, Creates, Appends, HasAppended, HasGrown, SameBytes}
-use Rattle.flex_edge.specs.Whole.{HasTried, HasWritten}
-
--- of the file these bytes are read, and the rest is to come
-pub record HasReadPart (name bytes : List ℕ) (old new : FilesState) : Type 0 where
-  pub there : old.bytes_of name ≡ Some (bytes ++ new.rest)
-  pub tried : HasTried name old new
-
--- the reading of a file after some of its bytes
-pub record IsReading (name bytes : List ℕ) (old new : FilesState) : Type 0 where
-  pub short : length bytes ≤ 1048576
-  pub changes : Changes old new (SameCounts old new) (HasReadPart name bytes old new)
+use Rattle.flex_edge.specs.Whole.{HasWritten}
 
 -- the writing of a file after a first part of its bytes
 pub record IsWriting (name bytes left : List ℕ) (old new : FilesState) : Type 0 where
@@ -79,10 +69,10 @@ grown_since name part piece old mid new h k =
 written_since : (name part piece : List ℕ) (old mid new : FilesState) → HasWritten name part old mid → HasAppended piece mid new
     → HasWritten name (part ++ piece) old new
 written_since name part piece old mid new h k =
-    let grown = grown_since name part piece old mid new h k in
+    let after = grown_since name part piece old mid new h k in
     record {
-      there = MatchOption-at_some ((piece ≡ []) × (new.bytes_of name ≡ None)) (λ before. new.bytes_of name ≡ Some (before ++ piece)) part h.there grown.bytes;
-      others = λ other differs. grown.others other differs ∙ h.others other differs;
+      there = MatchOption-at_some ((piece ≡ []) × (new.bytes_of name ≡ None)) (λ before. new.bytes_of name ≡ Some (before ++ piece)) part h.there after.bytes;
+      others = λ other differs. after.others other differs ∙ h.others other differs;
       created = k.created ∙ h.created;
       reading = record { begun = k.reading.begun ∙ h.reading.begun; rest = k.reading.rest ∙ h.reading.rest };
     }

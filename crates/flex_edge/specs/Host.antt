@@ -15,8 +15,8 @@ pub record HostState : Type 0 where
 abbrev pub new_host : HostState
 new_host = record { begun = false; created = false; read_faults = 0; write_faults = 0 }
 
-abbrev pub host_files_state : HostState → FilesState
-host_files_state s = record {
+abbrev pub host_state : HostState → FilesState
+host_state s = record {
   tells = false;
   bytes_of = λ _. None;
   begun = None;
@@ -26,9 +26,9 @@ host_files_state s = record {
   write_faults = s.write_faults;
 }
 
--- a file is begun after a `begin` that answered `Ok`, and none after one that failed
+-- a file is begun after a `begin` that answered `Ok`; one that failed leaves the one before
 abbrev pub HostBegins : HostState → Result (Unit {0}) Refused → HostState → Type 0
-HostBegins old result new = (new.created ≡ old.created) × Answers result (λ _. new.begun ≡ true) (new.begun ≡ false) ⊥
+HostBegins old result new = (new.created ≡ old.created) × Answers result (λ _. new.begun ≡ true) (new.begun ≡ old.begun) ⊥
 
 -- a file is created after a `create` that answered `Ok`; one that failed leaves the one before
 abbrev pub HostCreates : HostState → Result (Unit {0}) Refused → HostState → Type 0

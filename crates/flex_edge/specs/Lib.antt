@@ -4,3 +4,5 @@ pub mod Memory
 pub mod MemoryCalls
 pub mod Host
 pub mod Whole
+pub mod Feeding
+pub mod Observing

@@ -4,40 +4,40 @@ use Rattle.std.specs.Str.{bytes_eq}
 use Rattle.flex_edge.specs.Outside.{count_end, FilesState, SinkState}
 
 -- files in order, each with its name and its bytes
-abbrev pub Named : Type 0
-Named = List (List ℕ × List ℕ)
+abbrev pub NamedFiles : Type 0
+NamedFiles = List (List ℕ × List ℕ)
 
 -- the bytes of the first file with this name
-abbrev pub bytes_of : Named → List ℕ → Option (List ℕ)
+abbrev pub bytes_of : NamedFiles → List ℕ → Option (List ℕ)
 bytes_of [] name = None
 bytes_of (file ∷ files) name = if bytes_eq file.0 name then Some file.1 else bytes_of files name
 
 -- the files, of which the first with this name, if there is one, has other bytes
-abbrev pub changed : (List ℕ → List ℕ) → Named → List ℕ → Named
-changed change [] name = []
-changed change (file ∷ files) name =
-    if bytes_eq file.0 name then (file.0, change file.1) ∷ files else file ∷ changed change files name
+abbrev pub files_after_change : (List ℕ → List ℕ) → NamedFiles → List ℕ → NamedFiles
+files_after_change change [] name = []
+files_after_change change (file ∷ files) name =
+    if bytes_eq file.0 name then (file.0, change file.1) ∷ files else file ∷ files_after_change change files name
 
 -- the files, of which the first with this name has these bytes more
-abbrev pub grown : Named → List ℕ → List ℕ → Named
-grown files name part = changed (λ bytes. bytes ++ part) files name
+abbrev pub files_after_growth : NamedFiles → List ℕ → List ℕ → NamedFiles
+files_after_growth files name part = files_after_change (λ bytes. bytes ++ part) files name
 
 -- the files, of which the first with this name is empty; where there is none, it is added at the end
-abbrev pub emptied : Named → List ℕ → Named
-emptied [] name = (name, []) ∷ []
-emptied (file ∷ files) name = if bytes_eq file.0 name then (file.0, []) ∷ files else file ∷ emptied files name
+abbrev pub files_after_create : NamedFiles → List ℕ → NamedFiles
+files_after_create [] name = (name, []) ∷ []
+files_after_create (file ∷ files) name = if bytes_eq file.0 name then (file.0, []) ∷ files else file ∷ files_after_create files name
 
 -- one more than a count, which stands still at its end
-abbrev pub counted_up : ℕ → ℕ
-counted_up count = min (count + 1) count_end
+abbrev pub next_count : ℕ → ℕ
+next_count count = min (count + 1) count_end
 
 -- after so many calls the next one, by its number, is listed to fail
 abbrev pub IsListed : List ℕ → ℕ → Type 0
-IsListed fails calls = Contains fails (counted_up calls)
+IsListed fails calls = Contains fails (next_count calls)
 
 -- what files in memory hold
 pub record MemoryState : Type 0 where
-  pub files : Named
+  pub files : NamedFiles
   -- the name given to the last `begin`
   pub begun : Option (List ℕ)
   -- what is still to be read of the file begun last
@@ -50,7 +50,7 @@ pub record MemoryState : Type 0 where
   pub write_faults : ℕ
   -- the numbers of the calls that fail
   pub fails : List ℕ
-  -- the greatest number of bytes that a call takes or gives
+  -- the greatest number of bytes that an `append` takes
   pub most : ℕ
 
 -- what those files mean
@@ -66,7 +66,7 @@ files_state s = record {
 }
 
 -- files in memory before the first call
-abbrev pub new_memory : Named → List ℕ → ℕ → MemoryState
+abbrev pub new_memory : NamedFiles → List ℕ → ℕ → MemoryState
 new_memory files fails most = record {
   files = files;
   begun = None;
@@ -88,7 +88,7 @@ pub record MemorySinkState : Type 0 where
   pub write_faults : ℕ
   -- the numbers of the calls that fail
   pub fails : List ℕ
-  -- the greatest number of bytes that a call takes
+  -- the greatest number of bytes that a `write` takes
   pub most : ℕ
 
 -- what that sink means

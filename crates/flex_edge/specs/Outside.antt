@@ -1,9 +1,14 @@
 -- What files and a sink mean.
-use Rattle.std.specs.Prelude.{ℕ, ◌<◌, ◌≤◌, List, Bool, Option}
+use Rattle.std.specs.Prelude.{ℕ, ◌<◌, ◌≤◌, List, Bool, Option, length}
 
 -- the last value of a count of faults, at which it stands still
 abbrev pub count_end : ℕ
 count_end = 18446744073709551615
+
+-- bytes that are handed over at once: 1 to 4,096
+pub record IsPiece (bytes : List ℕ) : Type 0 where
+  pub some : 0 < length bytes
+  pub fits : length bytes ≤ 4096
 
 -- a count is greater than before, or stands at its last value
 pub record Rose (old new : ℕ) : Type 0 where

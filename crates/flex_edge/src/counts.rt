@@ -3,7 +3,7 @@
 ghost use Rattle.std.specs.Prelude.{◌≡◌, ◌↔◌, IsTrue};
 ghost use Rattle.flex_edge.specs.Outside.{Rose};
 ghost use Rattle.flex_edge.specs.Calls.{TakenCount};
-ghost use Rattle.flex_edge.specs.Memory.{counted_up, IsListed};
+ghost use Rattle.flex_edge.specs.Memory.{next_count, IsListed};
 ghost use Rattle.flex_edge.specs.MemoryCalls.{faults_after};
 
 use flex_base::Sequence;
@@ -12,8 +12,8 @@ use flex_base::Sequence;
 pub type Numbers = Sequence<u64>;
 
 // One more than a count, which stands still at its end.
-pub(crate) fn counted_up(count: u64) -> u64
-    ensures value { result ≡ counted_up count }
+pub(crate) fn next_count(count: u64) -> u64
+    ensures value { result ≡ next_count count }
     ensures rose { Rose count result }
 {
     count.saturating_add(1)
@@ -23,7 +23,7 @@ pub(crate) fn counted_up(count: u64) -> u64
 pub(crate) fn is_listed(fails: &Numbers, calls: u64) -> bool
     ensures { IsTrue result ↔ IsListed fails.now calls }
 {
-    fails.as_slice().contains(&counted_up(calls))
+    fails.as_slice().contains(&next_count(calls))
 }
 
 // The count of write faults after a piece of which so many bytes were taken.
@@ -32,7 +32,7 @@ pub(crate) fn faults_after(taken: usize, piece: &[u8], faults: u64) -> u64
     ensures rose { TakenCount taken piece.now faults result }
 {
     if taken == 0 && !piece.is_empty() {
-        counted_up(faults)
+        next_count(faults)
     } else {
         faults
     }

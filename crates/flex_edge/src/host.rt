@@ -1,10 +1,10 @@
 // The files and the standard output of the system.
 
 ghost use Rattle.std.specs.Prelude.{◌≡◌, false};
-ghost use Rattle.flex_edge.specs.Calls.{Begins, Reads, Creates, Appends};
-ghost use Rattle.flex_edge.specs.Host.{host_files_state, host_sink_state, new_host, HostBegins, HostCreates, SameFilesOpen};
+ghost use Rattle.flex_edge.specs.Calls.{Begins, Reads, Creates, Appends, Writes};
+ghost use Rattle.flex_edge.specs.Host.{host_state, host_sink_state, new_host, HostBegins, HostCreates, SameFilesOpen};
 
-use crate::counts::{counted_up, faults_after};
+use crate::counts::{faults_after, next_count};
 use crate::files::Files;
 use crate::refused::Refused;
 use crate::sink::Sink;
@@ -15,9 +15,9 @@ use std::{fs, io, rt};
 /// The files of the system, which tell nothing but their counts of faults. This project's own.
 ///
 /// Every error of the system is `Failed`, with its count raised: want of memory too, since the
-/// system's calls don't tell it from other errors. With no file begun, or after a `begin` that
-/// failed, `next` answers 0; with no file created, `append` takes nothing. A `create` that failed
-/// leaves the file created before.
+/// system's calls don't tell it from other errors. A `begin` that failed leaves the file begun
+/// before, and a `create` that failed the file created before. With no file begun `next` answers
+/// 0; with no file created `append` takes nothing.
 #[derive(Drop)]
 pub struct HostFiles<R: rt::Files> {
     rt: R,
@@ -71,10 +71,10 @@ impl<R: rt::Files> HostFiles<R> {
 }
 
 impl<R: rt::Files> Files for HostFiles<R> {
-    ghost state = { host_files_state };
+    ghost state = { host_state };
 
     fn begin(&mut self, name: &str) -> Result<(), Refused>
-        ensures counts { Begins (host_files_state self.old) name.now result (host_files_state self.new) }
+        ensures counts { Begins (host_state self.old) name.now result (host_state self.new) }
         ensures open { HostBegins self.old result self.new }
     {
         match fs::open(&self.rt, name) {
@@ -83,15 +83,14 @@ impl<R: rt::Files> Files for HostFiles<R> {
                 Ok(())
             }
             Err(_) => {
-                self.begun = None;
-                self.read_faults = counted_up(self.read_faults);
+                self.read_faults = next_count(self.read_faults);
                 Err(Refused::Failed)
             }
         }
     }
 
     fn next(&mut self, buf: &mut [u8]) -> Result<usize, Refused>
-        ensures counts { Reads (host_files_state self.old) buf.new result (host_files_state self.new) }
+        ensures counts { Reads (host_state self.old) buf.new result (host_state self.new) }
         ensures same { SameFilesOpen self.old self.new }
         ensures none_begun { self.old.begun ≡ false → result ≡ Ok 0 }
     {
@@ -101,14 +100,14 @@ impl<R: rt::Files> Files for HostFiles<R> {
         match file.read(buf) {
             Ok(count) => Ok(count),
             Err(_) => {
-                self.read_faults = counted_up(self.read_faults);
+                self.read_faults = next_count(self.read_faults);
                 Err(Refused::Failed)
             }
         }
     }
 
     fn create(&mut self, name: &str) -> Result<(), Refused>
-        ensures counts { Creates (host_files_state self.old) name.now result (host_files_state self.new) }
+        ensures counts { Creates (host_state self.old) name.now result (host_state self.new) }
         ensures open { HostCreates self.old result self.new }
     {
         match fs::create(&self.rt, name) {
@@ -117,14 +116,14 @@ impl<R: rt::Files> Files for HostFiles<R> {
                 Ok(())
             }
             Err(_) => {
-                self.write_faults = counted_up(self.write_faults);
+                self.write_faults = next_count(self.write_faults);
                 Err(Refused::Failed)
             }
         }
     }
 
     fn append(&mut self, piece: &[u8]) -> Result<usize, Refused>
-        ensures counts { Appends (host_files_state self.old) piece.now result (host_files_state self.new) }
+        ensures counts { Appends (host_state self.old) piece.now result (host_state self.new) }
         ensures same { SameFilesOpen self.old self.new }
         ensures none_created { self.old.created ≡ false → result ≡ Ok 0 }
     {
@@ -138,7 +137,7 @@ impl<R: rt::Files> Files for HostFiles<R> {
                 Ok(taken)
             }
             Err(_) => {
-                self.write_faults = counted_up(self.write_faults);
+                self.write_faults = next_count(self.write_faults);
                 Err(Refused::Failed)
             }
         }
@@ -183,14 +182,16 @@ impl<R: Print> HostSink<R> {
 impl<R: Print> Sink for HostSink<R> {
     ghost state = { host_sink_state };
 
-    fn write(&mut self, piece: &[u8]) -> Result<usize, Refused> {
+    fn write(&mut self, piece: &[u8]) -> Result<usize, Refused>
+        ensures { Writes (host_sink_state self.old) piece.now result (host_sink_state self.new) }
+    {
         match io::writer(&self.rt).write(piece) {
             Ok(taken) => {
                 self.write_faults = faults_after(taken, piece, self.write_faults);
                 Ok(taken)
             }
             Err(_) => {
-                self.write_faults = counted_up(self.write_faults);
+                self.write_faults = next_count(self.write_faults);
                 Err(Refused::Failed)
             }
         }

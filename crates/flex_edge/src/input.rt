@@ -2,23 +2,18 @@
 
 ghost use Rattle.flex_edge.specs.Whole.{ReadsFile};
 
+use crate::consumer::{Consumer, FeedRefusal, feed_file};
 use crate::files::Files;
 use crate::refused::Refused;
 use flex_base::Bytes;
 use std::alloc::Global;
-
-/// The greatest number of bytes that a source or a script may have.
-pub const MOST_BYTES: usize = 1_048_576;
-
-/// The length of the buffer for one call of `next`.
-const PIECE: usize = 4096;
 
 /// Why a file wasn't read.
 #[derive(Clone, Copy, Debug, PartialEq, Eq)]
 pub enum ReadRefusal {
     /// A call failed.
     Failed,
-    /// The file has more than `MOST_BYTES` bytes.
+    /// The file has more bytes than are to be read.
     TooLong,
     /// Memory was refused.
     NoMemory,
@@ -38,23 +33,50 @@ impl From<Refused> for ReadRefusal {
     }
 }
 
-/// All bytes of the file with this name, which are at most `MOST_BYTES`.
-pub fn read_file<F: Files>(alloc: Global, files: &mut F, name: &str) -> Result<Bytes, ReadRefusal>
-    ensures { ReadsFile (F.state files.old) name.now result (F.state files.new) }
-{
-    files.begin(name)?;
-    let mut bytes = Bytes::new(alloc);
-    let mut buffer = [0; PIECE];
-    loop {
-        let count = files.next(&mut buffer)?;
-        if count == 0 {
-            return Ok(bytes);
-        }
-        if bytes.len() + count > MOST_BYTES {
+// Collects the bytes of a file, at most `most` of them.
+#[derive(Drop)]
+struct Collector {
+    bytes: Bytes,
+    most: usize,
+}
+
+impl Consumer for Collector {
+    ghost use Rattle.std.specs.Prelude.{◌-◌, length};
+    ghost use Rattle.flex_edge.specs.Feeding.{Collects};
+
+    type Refusal = ReadRefusal;
+
+    ghost takes = { Collects };
+
+    ghost room = { λ c. c.most - length c.bytes };
+
+    fn take(&mut self, piece: &[u8]) -> Result<(), ReadRefusal> {
+        if piece.len() > self.most.saturating_sub(self.bytes.len()) {
             return Err(ReadRefusal::TooLong);
         }
-        if bytes.extend(&buffer[..count]).is_err() {
-            return Err(ReadRefusal::NoMemory);
+        match self.bytes.extend(piece) {
+            Ok(()) => Ok(()),
+            Err(_) => Err(ReadRefusal::NoMemory),
         }
+    }
+}
+
+/// All bytes of the file with this name, which are at most `most`.
+pub fn read_file<F: Files>(
+    alloc: Global,
+    files: &mut F,
+    name: &str,
+    most: usize,
+) -> Result<Bytes, ReadRefusal>
+    ensures { ReadsFile most (F.state files.old) name.now result (F.state files.new) }
+{
+    let mut collector = Collector {
+        bytes: Bytes::new(alloc),
+        most,
+    };
+    match feed_file(files, name, &mut collector) {
+        Ok(()) => Ok(collector.bytes),
+        Err(FeedRefusal::Files(refused)) => Err(ReadRefusal::from(refused)),
+        Err(FeedRefusal::Consumer(refusal)) => Err(refusal),
     }
 }

@@ -5,7 +5,7 @@ ghost use Rattle.flex_edge.specs.Calls.{Begins, Reads, Creates, Appends};
 ghost use Rattle.flex_edge.specs.Memory.{bytes_of, files_state, new_memory};
 ghost use Rattle.flex_edge.specs.MemoryCalls.{IsRestToBegin, MemoryBegins, MemoryReads, MemoryCreates, MemoryAppends};
 
-use crate::counts::{Numbers, counted_up, faults_after, is_listed};
+use crate::counts::{Numbers, faults_after, is_listed, next_count};
 use crate::files::Files;
 use crate::named::{FileList, append_to_created, empty_file, find_file};
 use crate::refused::Refused;
@@ -61,8 +61,8 @@ impl Model for MemoryFiles {
 
 impl MemoryFiles {
     /// Files in memory before the first call. `fails` lists the numbers of the calls that are to
-    /// fail, and `most` is the greatest number of bytes that one `next` or `append` moves. It
-    /// takes no memory.
+    /// fail, and `most` is the greatest number of bytes that one `append` takes. It takes no
+    /// memory.
     pub fn new(alloc: Global, files: FileList, fails: Numbers, most: usize) -> MemoryFiles
         requires { 0 < most }
         ensures { result ≡ new_memory files fails most }
@@ -126,7 +126,7 @@ impl Files for MemoryFiles {
     {
         let begun = Text::make(self.alloc, name)?;
         let rest = self.rest_of(name)?;
-        self.calls = counted_up(self.calls);
+        self.calls = next_count(self.calls);
         self.begun = Some(begun);
         match rest {
             Some(rest) => {
@@ -134,7 +134,7 @@ impl Files for MemoryFiles {
                 Ok(())
             }
             None => {
-                self.read_faults = counted_up(self.read_faults);
+                self.read_faults = next_count(self.read_faults);
                 Err(Refused::Failed)
             }
         }
@@ -145,12 +145,12 @@ impl Files for MemoryFiles {
         ensures exact { MemoryReads self.old buf.old buf.new result self.new }
     {
         let listed = is_listed(&self.fails, self.calls);
-        self.calls = counted_up(self.calls);
+        self.calls = next_count(self.calls);
         if listed {
-            self.read_faults = counted_up(self.read_faults);
+            self.read_faults = next_count(self.read_faults);
             return Err(Refused::Failed);
         }
-        Ok(self.rest.give(buf, self.most))
+        Ok(self.rest.give(buf))
     }
 
     fn create(&mut self, name: &str) -> Result<(), Refused>
@@ -158,13 +158,13 @@ impl Files for MemoryFiles {
         ensures exact { MemoryCreates self.old name.now result self.new }
     {
         if is_listed(&self.fails, self.calls) {
-            self.calls = counted_up(self.calls);
-            self.write_faults = counted_up(self.write_faults);
+            self.calls = next_count(self.calls);
+            self.write_faults = next_count(self.write_faults);
             return Err(Refused::Failed);
         }
         let created = Text::make(self.alloc, name)?;
         empty_file(self.alloc, &mut self.files, &created)?;
-        self.calls = counted_up(self.calls);
+        self.calls = next_count(self.calls);
         self.created = Some(created);
         Ok(())
     }
@@ -174,12 +174,12 @@ impl Files for MemoryFiles {
         ensures exact { MemoryAppends self.old piece.now result self.new }
     {
         if is_listed(&self.fails, self.calls) {
-            self.calls = counted_up(self.calls);
-            self.write_faults = counted_up(self.write_faults);
+            self.calls = next_count(self.calls);
+            self.write_faults = next_count(self.write_faults);
             return Err(Refused::Failed);
         }
         let taken = append_to_created(&mut self.files, &self.created, piece, self.most)?;
-        self.calls = counted_up(self.calls);
+        self.calls = next_count(self.calls);
         self.write_faults = faults_after(taken, piece, self.write_faults);
         Ok(taken)
     }

@@ -5,7 +5,7 @@ ghost use Rattle.flex_edge.specs.Calls.{Writes};
 ghost use Rattle.flex_edge.specs.Memory.{sink_state, new_memory_sink};
 ghost use Rattle.flex_edge.specs.MemoryCalls.{MemoryWrites};
 
-use crate::counts::{Numbers, counted_up, is_listed};
+use crate::counts::{Numbers, is_listed, next_count};
 use crate::refused::Refused;
 use crate::sink::Sink;
 use flex_base::Bytes;
@@ -84,13 +84,13 @@ impl Sink for MemorySink {
         ensures exact { MemoryWrites self.old piece.now result self.new }
     {
         if is_listed(&self.fails, self.calls) {
-            self.calls = counted_up(self.calls);
-            self.write_faults = counted_up(self.write_faults);
+            self.calls = next_count(self.calls);
+            self.write_faults = next_count(self.write_faults);
             return Err(Refused::Failed);
         }
         let part = &piece[..self.most.min(piece.len())];
         self.taken.extend(part)?;
-        self.calls = counted_up(self.calls);
+        self.calls = next_count(self.calls);
         Ok(part.len())
     }
 }

@@ -1,10 +1,10 @@
 // Files in a list, each with its name and its bytes; of those with one name the first counts.
 
-ghost use Rattle.std.specs.Prelude.{◌≡◌, IfOk, OnErr, option_copied, option_and_then, length, min, take};
+ghost use Rattle.std.specs.Prelude.{◌≡◌, IfOk, OnErr, option_copied};
 ghost use Rattle.std.specs.List.{position};
 ghost use Rattle.std.specs.Str.{bytes_eq};
-ghost use Rattle.flex_edge.specs.Memory.{bytes_of, emptied};
-ghost use Rattle.flex_edge.specs.MemoryCalls.{taken_count, appended};
+ghost use Rattle.flex_edge.specs.Memory.{bytes_of, files_after_create};
+ghost use Rattle.flex_edge.specs.MemoryCalls.{IsTakenCount, TakesFirst};
 
 use flex_base::{Bytes, NoMemory, Sequence, Text};
 use std::alloc::Global;
@@ -35,8 +35,8 @@ pub(crate) fn append_to_created(
     piece: &[u8],
     most: usize,
 ) -> Result<usize, NoMemory>
-    ensures count { IfOk result (λ count. count ≡ taken_count (option_and_then (bytes_of files.old) created.now) (min most (length piece.now))) }
-    ensures after { IfOk result (λ count. files.new ≡ appended files.old created.now (take count piece.now)) }
+    ensures count { IfOk result (IsTakenCount files.old created.now most piece.now) }
+    ensures after { IfOk result (TakesFirst files.old created.now piece.now files.new) }
     ensures err { OnErr result (files.new ≡ files.old) }
 {
     let Some(name) = created else {
@@ -57,7 +57,7 @@ pub(crate) fn empty_file(
     files: &mut Vec<(Text, Bytes)>,
     name: &Text,
 ) -> Result<(), NoMemory>
-    ensures after { IfOk result (λ _. files.new.items ≡ emptied files.old.items name.now) }
+    ensures ok { IfOk result (λ _. files.new.items ≡ files_after_create files.old.items name.now) }
     ensures err { OnErr result (files.new.items ≡ files.old.items) }
 {
     match place_of(files, name.as_str()) {

@@ -1,7 +1,8 @@
 // Observers of the records of a play.
 
-ghost use Rattle.std.specs.Prelude.{◌≡◌, ◌↔◌, List, ℕ, Bool, [], ◌∷◌, IsTrue, IfOk, OnOk, OnErr};
+ghost use Rattle.std.specs.Prelude.{◌≡◌, List, ℕ, Bool, [], IfOk};
 ghost use Rattle.flex_base.specs.declared.record.TraceItem.{TraceItem};
+ghost use Rattle.flex_edge.specs.Observing.{LeavesAt, Advances};
 
 use flex_base::{NoMemory, TraceItem};
 use std::alloc::Global;
@@ -29,11 +30,9 @@ pub trait Observer: Drop {
 
     /// Shows the observer a record. After `NoMemory` it is as before.
     fn see(&mut self, alloc: Global, item: &TraceItem) -> Result<Next, NoMemory>
-        ensures leaves { IfOk result (λ next. (next ≡ Next.Leave) ↔ IsTrue (leaves_after self.old (item.now ∷ []))) }
-        ensures report { OnOk result ((items : List TraceItem) → report_after self.new items ≡ report_after self.old (item.now ∷ items)) }
-        ensures later { OnOk result ((items : List TraceItem) → leaves_after self.new items ≡ leaves_after self.old (item.now ∷ items)) }
-        ensures same_report { OnErr result ((items : List TraceItem) → report_after self.new items ≡ report_after self.old items) }
-        ensures same_leaving { OnErr result ((items : List TraceItem) → leaves_after self.new items ≡ leaves_after self.old items) };
+        ensures leaves { IfOk result (LeavesAt (leaves_after self.old) item.now) }
+        ensures report { Advances (report_after self.old) item.now result (report_after self.new) }
+        ensures later { Advances (leaves_after self.old) item.now result (leaves_after self.new) };
 
     /// The report of the records that it was shown.
     fn report(&self, alloc: Global) -> Result<Vec<u8>, NoMemory>

@@ -41,14 +41,14 @@ impl Rest {
         Ok(Rest { bytes, given: 0 })
     }
 
-    // Gives the first bytes into `buf`, at most `most` of them, and answers how many.
-    pub(crate) fn give(&mut self, buf: &mut [u8], most: usize) -> usize
-        ensures count { result ≡ min most (min (length buf.old) (length self.old)) }
+    // Gives the first bytes into `buf`, as many as there are and fit, and answers how many.
+    pub(crate) fn give(&mut self, buf: &mut [u8]) -> usize
+        ensures count { result ≡ min (length buf.old) (length self.old) }
         ensures given { buf.new ≡ take result self.old ++ drop result buf.old }
         ensures rest { self.new ≡ drop result self.old }
     {
         let left = &self.bytes[self.given..];
-        let count = most.min(buf.len().min(left.len()));
+        let count = buf.len().min(left.len());
         buf[..count].copy_from_slice(&left[..count]);
         self.given += count;
         count

@@ -7,9 +7,10 @@ use crate::refused::Refused;
 #[derive(Clone, Copy)]
 pub(crate) enum Step<'a> {
     Begin(&'a str, Result<(), Refused>),
-    // The room of the buffer, at most 4, and the bytes given.
+    // The room of the buffer, 1 to 4, and the bytes given.
     Next(usize, Result<&'a [u8], Refused>),
     Create(&'a str, Result<(), Refused>),
+    // A piece of 1 to 4 bytes, and how many of them are taken.
     Append(&'a [u8], Result<usize, Refused>),
 }
 
@@ -29,16 +30,25 @@ fn is_answered<F: Files>(files: &mut F, step: &Step) -> bool {
         Step::Begin(name, answer) => files.begin(name) == *answer,
         Step::Next(room, answer) => gives(files, *room, *answer),
         Step::Create(name, answer) => files.create(name) == *answer,
-        Step::Append(piece, answer) => files.append(piece) == *answer,
+        Step::Append(piece, answer) => takes(files, piece, *answer),
     }
 }
 
 fn gives<F: Files>(files: &mut F, room: usize, answer: Result<&[u8], Refused>) -> bool {
     let mut buf = [0; 4];
-    let room = room.min(buf.len());
+    if room == 0 || room > buf.len() {
+        return false;
+    }
     match (files.next(&mut buf[..room]), answer) {
         (Ok(count), Ok(bytes)) => buf.get(..count) == Some(bytes),
         (Err(refused), Err(error)) => refused == error,
         _ => false,
     }
+}
+
+fn takes<F: Files>(files: &mut F, piece: &[u8], answer: Result<usize, Refused>) -> bool {
+    if piece.is_empty() || piece.len() > 4 {
+        return false;
+    }
+    files.append(piece) == answer
 }

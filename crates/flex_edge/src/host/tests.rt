@@ -10,7 +10,6 @@ fn writes_and_reads_a_file(rt: HostRuntime) -> Result<(), Fail> {
     let mut files = HostFiles::new(rt.clone()?);
     let steps = [
         Step::Next(4, Ok(b"")),
-        Step::Append(b"", Ok(0)),
         Step::Append(b"x", Ok(0)),
         Step::Create("out.bin", Ok(())),
         Step::Append(b"ab", Ok(2)),
@@ -18,8 +17,10 @@ fn writes_and_reads_a_file(rt: HostRuntime) -> Result<(), Fail> {
         Step::Begin("out.bin", Ok(())),
         Step::Next(4, Ok(b"abc")),
         Step::Next(4, Ok(b"")),
+        Step::Begin("out.bin", Ok(())),
+        Step::Next(1, Ok(b"a")),
         Step::Begin("missing/out.bin", Err(Refused::Failed)),
-        Step::Next(4, Ok(b"")),
+        Step::Next(4, Ok(b"bc")),
         Step::Create("missing/out.bin", Err(Refused::Failed)),
     ];
     assert_eq!(rt; first_wrong(&mut files, &steps), None);

@@ -2,6 +2,8 @@ ghost use Rattle.std.specs.Prelude.{◌<◌};
 
 use super::MemoryFiles;
 use crate::counts::Numbers;
+use crate::files::Files;
+use crate::input::{ReadRefusal, read_file};
 use crate::named::FileList;
 use crate::refused::Refused;
 use crate::steps::{Step, first_wrong};
@@ -38,28 +40,52 @@ fn holds(files: &MemoryFiles, name: &str, content: &[u8]) -> bool {
     }
 }
 
+// Whether the reading of a file of at most so many bytes gives this.
+fn reads(
+    alloc: Global,
+    files: &mut MemoryFiles,
+    name: &str,
+    most: usize,
+    answer: Result<&[u8], ReadRefusal>,
+) -> bool {
+    match (read_file(alloc, files, name, most), answer) {
+        (Ok(bytes), Ok(content)) => bytes.as_slice() == content,
+        (Err(refusal), Err(other)) => refusal == other,
+        _ => false,
+    }
+}
+
 #[test]
-fn moves_a_byte_at_a_time(rt: HostRuntime) -> Result<(), Fail> {
+fn takes_a_byte_at_a_time(rt: HostRuntime) -> Result<(), Fail> {
     let mut files = memory(rt.alloc(), &[], 1)?;
     let steps = [
         Step::Next(4, Ok(b"")),
-        Step::Append(b"", Ok(0)),
         Step::Append(b"xy", Ok(0)),
         Step::Begin("a", Ok(())),
         Step::Create("new", Ok(())),
-        Step::Next(4, Ok(b"a")),
+        Step::Next(1, Ok(b"a")),
         Step::Append(b"xy", Ok(1)),
-        Step::Next(4, Ok(b"b")),
-        Step::Append(b"", Ok(0)),
         Step::Begin("missing", Err(Refused::Failed)),
-        Step::Next(0, Ok(b"")),
-        Step::Next(4, Ok(b"c")),
+        Step::Next(4, Ok(b"bc")),
         Step::Next(4, Ok(b"")),
     ];
     assert_eq!(rt; first_wrong(&mut files, &steps), None);
+    assert_eq!(rt; (files.append(b""), files.next(&mut [])), (Ok(0), Ok(0)));
     assert_eq!(rt; (files.read_faults(), files.write_faults()), (1, 1));
     let written = holds(&files, "new", b"x");
     assert!(rt; written);
+    Ok(())
+}
+
+#[test]
+fn reads_whole_files(rt: HostRuntime) -> Result<(), Fail> {
+    let mut files = memory(rt.alloc(), &[7], 1)?;
+    let whole = reads(rt.alloc(), &mut files, "a", 3, Ok(b"abc"));
+    let long = reads(rt.alloc(), &mut files, "a", 2, Err(ReadRefusal::TooLong));
+    let missing = reads(rt.alloc(), &mut files, "b", 3, Err(ReadRefusal::Failed));
+    let empty = reads(rt.alloc(), &mut files, "empty", 0, Err(ReadRefusal::Failed));
+    let again = reads(rt.alloc(), &mut files, "empty", 0, Ok(b""));
+    assert!(rt; whole && long && missing && empty && again);
     Ok(())
 }
 
