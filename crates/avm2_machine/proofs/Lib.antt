@@ -1,3 +1,4 @@
 pub mod Outward
 pub mod Progress
 pub mod Stages
+pub mod Walks

@@ -387,6 +387,7 @@ continues_lowers : (abc : Abc) (f : Frame) (m : Machine) → remaining abc (cont
 continues_lowers abc (frame.Code f) m = executes_lowers abc (fetch abc f) f m (fits_fetch (slice_get abc.method_bodies f.body) f.pc)
 continues_lowers abc (frame.User line) m = omega (arith, left_le m.outcome (work_left abc m))
 continues_lowers abc (frame.Miss name) m = omega (arith, left_le m.outcome (work_left abc m))
+continues_lowers abc frame.UnknownState m = omega arith
 continues_lowers abc (frame.Sending c) m = omega (arith, sends_le abc c m)
 continues_lowers abc (frame.Dispatch d) m = omega (arith, dispatches_le abc d.calls d.nodes d m refl)
 

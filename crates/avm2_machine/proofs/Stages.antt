@@ -8,8 +8,8 @@ use Rattle.avm2_machine.specs.declared.stage.Object.{Object}
 use Rattle.avm2_machine.specs.declared.stage.Registration.{Registration}
 use Rattle.avm2_machine.specs.declared.stage.Stage.{Stage}
 use Rattle.flex_base.specs.declared.value.ObjId.{ObjId}
-use Rattle.flex_base.specs.Lists.{changed_at, changed_entry, entry}
-use Rattle.avm2_machine.specs.Stage.{object_at, property, slot_of, with_last, with_parent, with_listener, with_property, with_value, place_of, slot_named, one_later}
+use Rattle.flex_base.specs.Lists.{changed_at, changed_entry, entry, one_later}
+use Rattle.avm2_machine.specs.Stage.{object_at, property, slot_of, with_last, with_parent, with_listener, with_property, with_value, place_of, slot_named}
 
 pub changed_at-set : (f : Object → Object) (objects : List Object) (n : ℕ) (o : Object) → slice_get objects n ≡ Some o → changed_at f objects n ≡ slice_set objects n (f o)
 changed_at-set f [] n o h = refl
