@@ -24,8 +24,8 @@ use Rattle.flexc.specs.declared.command.Failure.{Failure}
 use Rattle.flexc.specs.declared.command.Failure.TheVariants as failure
 use Rattle.flexc.specs.declared.command.Status.{Status}
 use Rattle.flex_edge.specs.declared.input.ReadRefusal.TheVariants as read
-use Rattle.flex_edge.specs.declared.output.WriteRefusal.{WriteRefusal}
-use Rattle.flex_edge.specs.declared.output.WriteRefusal.TheVariants as write
+use Rattle.flex_edge.specs.declared.refused.Refused.{Refused}
+use Rattle.flex_edge.specs.declared.refused.Refused.TheVariants as refused
 use Rattle.flex_front.specs.declared.document.Document.{Document}
 use Rattle.flexc.proofs.Asked.{asks_none}
 use Rattle.flexc.proofs.EndsWell.{ends_so}
@@ -54,7 +54,7 @@ failed_course words (failure.CannotWrite name) old new before mid after answer h
     let n = h.0 in
     Cannot_write n.script name.now n.main n.document n.events n.are n.written (subst (λ s. Says 8 (codes "cannot write " ++ name.now) s after answer) h.1 r)
 failed_course words failure.CannotPrint old new before mid after answer h r =
-    Cannot_print h.script h.out h.main h.document h.events h.are h.written (subst (λ s. Plays h.written.bytes h.events (turns words) before (Err write.Failed) s) (sym r.0) h.plays) r.1
+    Cannot_print h.script h.out h.main h.document h.events h.are h.written (subst (λ s. Plays h.written.bytes h.events (turns words) before (Err refused.Failed) s) (sym r.0) h.plays) r.1
 failed_course words failure.NoMemory old new before mid after answer h r = No_memory (subst (λ s. HasNoMemory words old new before s) (sym r.0) h) r.1
 
 pub played_course : (words : List (List ℕ)) (outcome : Outcome) (old new : FilesState) (before after : SinkState) (answer : Status)
@@ -160,7 +160,7 @@ module _ (words : List (List ℕ)) (old new : FilesState) where
       not_both events line (sym r.says ∙ ap script_of (sym is) ∙ other)
 
   -- the file was written
-  write_fails : (script out main : List ℕ) (document : Document) (its : List UserEvent) → HasWrittenFile script out main document its (Err write.Failed) old new → NoFileFault old new → ⊥
+  write_fails : (script out main : List ℕ) (document : Document) (its : List UserEvent) → HasWrittenFile script out main document its (Err refused.Failed) old new → NoFileFault old new → ⊥
   write_fails script out main document its h none =
       none.writes (subst (λ n. Rose n new.write_faults) (counts_read script main h.built.source h.built.commands old h.mid h.built.read).writes h.written.counts.writes)
 
@@ -259,10 +259,10 @@ module _ (words : List (List ℕ)) (old new : FilesState) where
         }
 
     -- no line was to be printed where the status is that of an end
-    not_said : (n k : ℕ) (result : Result (Unit {0}) WriteRefusal) → n ≢ k → 8 ≢ k → 9 ≢ k → status_after n result ≡ status k → ⊥
+    not_said : (n k : ℕ) (result : Result (Unit {0}) Refused) → n ≢ k → 8 ≢ k → 9 ≢ k → status_after n result ≡ status k → ⊥
     not_said n k (Ok done) a b c e = a (ap (λ s. s.0) e)
-    not_said n k (Err write.Failed) a b c e = b (ap (λ s. s.0) e)
-    not_said n k (Err write.NoMemory) a b c e = c (ap (λ s. s.0) e)
+    not_said n k (Err refused.Failed) a b c e = b (ap (λ s. s.0) e)
+    not_said n k (Err refused.NoMemory) a b c e = c (ap (λ s. s.0) e)
 
     said : (n k : ℕ) (line : List ℕ) (answer : Status) → n ≢ k → 8 ≢ k → 9 ≢ k → Says n line before after answer → answer ≡ status k → ⊥
     said n k line answer a b c s e = not_said n k s.result a b c (sym s.is ∙ e)
@@ -351,14 +351,14 @@ module _ (words : List (List ℕ)) (old new : FilesState) (before after : SinkSt
   has_said : (meant n : ℕ) (line text : List ℕ) (answer : Status) → Says n text before after answer → meant ≡ n → line ≡ text → HasSaid meant line before after answer ⊎ (answer ≡ status 9)
   has_said meant n line text answer s number same = by s.result s.prints s.is
     where
-      by : (result : Result (Unit {0}) WriteRefusal) → Prints before (with_end text) result after → answer ≡ status_after n result → HasSaid meant line before after answer ⊎ (answer ≡ status 9)
+      by : (result : Result (Unit {0}) Refused) → Prints before (with_end text) result after → answer ≡ status_after n result → HasSaid meant line before after answer ⊎ (answer ≡ status 9)
       by (Ok done) p is =
           inl (record {
             is = is ∙ ap status (sym number);
             printed = record { tells = p.tells; faults = p.faults; told = λ t. p.told t ∙ ap (λ l. before.taken ++ with_end l) (sym same) };
           })
-      by (Err write.Failed) p is = absurd (quiet p.faults)
-      by (Err write.NoMemory) p is = inr is
+      by (Err refused.Failed) p is = absurd (quiet p.faults)
+      by (Err refused.NoMemory) p is = inr is
 
   -- what was read of the two files
   reading : (script main source commands : List ℕ) (mid : FilesState) → HasRead script main source commands old mid → HoldsBoth script main source commands old

@@ -1,8 +1,8 @@
 -- The printing of a line in pieces.
 use Rattle.std.proofs.Common.{◌≡◌, ℕ, List, ◌++◌, Ok, Err, Result, sym, ap, ◌∙◌, subst, append_assoc}
 use Rattle.flex_edge.specs.Outside.{Rose, SinkState}
-use Rattle.flex_edge.specs.declared.output.WriteRefusal.{WriteRefusal}
-use Rattle.flex_edge.specs.declared.output.WriteRefusal.TheVariants as write
+use Rattle.flex_edge.specs.declared.refused.Refused.{Refused}
+use Rattle.flex_edge.specs.declared.refused.Refused.TheVariants as refused
 use Rattle.flex_edge.specs.Whole.{HasTaken, Prints}
 
 -- a first part of what follows
@@ -15,26 +15,26 @@ taken_behind x y a b c before h = record {
 }
 
 -- one piece behind another
-pub prints_then : (x y : List ℕ) (a b c : SinkState) (result : Result (Unit {0}) WriteRefusal) → Prints a x (Ok tt) b → Prints b y result c → Prints a (x ++ y) result c
+pub prints_then : (x y : List ℕ) (a b c : SinkState) (result : Result (Unit {0}) Refused) → Prints a x (Ok tt) b → Prints b y result c → Prints a (x ++ y) result c
 prints_then x y a b c (Ok done) p q = record {
   tells = q.tells ∙ p.tells;
   faults = q.faults ∙ p.faults;
   told = λ t. q.told (p.tells ∙ t) ∙ ap (λ l. l ++ y) (p.told t) ∙ append_assoc a.taken x y;
 }
-prints_then x y a b c (Err write.Failed) p q = record {
+prints_then x y a b c (Err refused.Failed) p q = record {
   tells = q.tells ∙ p.tells;
   faults = subst (λ n. Rose n c.write_faults) p.faults q.faults;
   told = λ t. taken_behind x y a b c (p.told t) (q.told (p.tells ∙ t));
 }
-prints_then x y a b c (Err write.NoMemory) p q = record {
+prints_then x y a b c (Err refused.NoMemory) p q = record {
   tells = q.tells ∙ p.tells;
   faults = q.faults ∙ p.faults;
   told = λ t. taken_behind x y a b c (p.told t) (q.told (p.tells ∙ t));
 }
 
 -- a piece that wasn't printed whole, and one that was to follow
-pub prints_stop : (x y : List ℕ) (a b : SinkState) (refusal : WriteRefusal) → Prints a x (Err refusal) b → Prints a (x ++ y) (Err refusal) b
-prints_stop x y a b write.Failed p =
+pub prints_stop : (x y : List ℕ) (a b : SinkState) (refusal : Refused) → Prints a x (Err refusal) b → Prints a (x ++ y) (Err refusal) b
+prints_stop x y a b refused.Failed p =
     record { tells = p.tells; faults = p.faults; told = λ t. let h = p.told t in record { part = h.part; left = h.left ++ y; whole = ap (λ l. l ++ y) h.whole ∙ append_assoc h.part h.left y; taken = h.taken } }
-prints_stop x y a b write.NoMemory p =
+prints_stop x y a b refused.NoMemory p =
     record { tells = p.tells; faults = p.faults; told = λ t. let h = p.told t in record { part = h.part; left = h.left ++ y; whole = ap (λ l. l ++ y) h.whole ∙ append_assoc h.part h.left y; taken = h.taken } }

@@ -14,14 +14,14 @@ use Rattle.flexc.specs.declared.command.Failure.{Failure}
 use Rattle.flexc.specs.declared.command.Failure.TheVariants as failure
 use Rattle.flex_edge.specs.declared.input.ReadRefusal.{ReadRefusal}
 use Rattle.flex_edge.specs.declared.input.ReadRefusal.TheVariants as read
-use Rattle.flex_edge.specs.declared.output.WriteRefusal.{WriteRefusal}
+use Rattle.flex_edge.specs.declared.refused.Refused.{Refused}
 use Rattle.flex_front.specs.declared.document.Document.{Document}
 
 -- no file was made or changed in either part
 none_made : (old mid new : FilesState) → MakesNone old mid → MakesNone mid new → MakesNone old new
 none_made old mid new a b = record { bytes = λ name. b.bytes name ∙ a.bytes name; created = b.created ∙ a.created }
 
-read_then : (main source : List ℕ) (old mid new : FilesState) → ReadsFile old main (Ok source) mid → Changes mid new (SameCounts mid new) (MakesNone mid new)
+read_then : (main source : List ℕ) (old mid new : FilesState) → ReadsFile 1048576 old main (Ok source) mid → Changes mid new (SameCounts mid new) (MakesNone mid new)
     → Changes old new (SameCounts old new) (MakesNone old new)
 read_then main source old mid new a b = record {
   tells = b.tells ∙ a.1.tells;
@@ -30,20 +30,20 @@ read_then main source old mid new a b = record {
 }
 
 -- the script wasn't read
-pub script_unread : (script : Bor (List ℕ)) (main source : List ℕ) (old mid new : FilesState) (refusal : ReadRefusal) → ReadsFile old main (Ok source) mid
-    → ReadsFile mid script.now (Err refusal) new → HasNoDocument script.now main (read_failure refusal script) old new
+pub script_unread : (script : Bor (List ℕ)) (main source : List ℕ) (old mid new : FilesState) (refusal : ReadRefusal) → ReadsFile 1048576 old main (Ok source) mid
+    → ReadsFile 1048576 mid script.now (Err refusal) new → HasNoDocument script.now main (read_failure refusal script) old new
 script_unread script main source old mid new read.Failed a b = At_script source mid a refl b
 script_unread script main source old mid new read.TooLong a b = At_script source mid a refl b
 script_unread script main source old mid new read.NoMemory a b = read_then main source old mid new a b
 
 -- both were read, and no file was made or changed
-pub only_read : (script main source commands : List ℕ) (old mid new : FilesState) → ReadsFile old main (Ok source) mid → ReadsFile mid script (Ok commands) new
+pub only_read : (script main source commands : List ℕ) (old mid new : FilesState) → ReadsFile 1048576 old main (Ok source) mid → ReadsFile 1048576 mid script (Ok commands) new
     → Changes old new (SameCounts old new) (MakesNone old new)
 only_read script main source commands old mid new a b =
     read_then main source old mid new a (record { tells = b.1.tells; counts = b.1.counts; told = λ t. (b.1.told t).tried.only })
 
 -- the source was judged, and isn't built
-pub is_refused : (script main source commands : List ℕ) (old mid new : FilesState) → ReadsFile old main (Ok source) mid → ReadsFile mid script (Ok commands) new → IsNotBuilt main source
+pub is_refused : (script main source commands : List ℕ) (old mid new : FilesState) → ReadsFile 1048576 old main (Ok source) mid → ReadsFile 1048576 mid script (Ok commands) new → IsNotBuilt main source
     → IsRefused script main old new
 is_refused script main source commands old mid new a b refused =
     record { source = source; commands = commands; has_read = record { mid = mid; first = a; second = b }; refused = refused }
@@ -67,7 +67,7 @@ built_early words script out main document events old new before are h =
     Early script out main are (only_read script main h.source h.commands old h.read.mid new h.read.first h.read.second) refl
 
 -- the file that was to be written plays as the document
-abbrev pub written_file : (script out main bytes : List ℕ) (document : Document) (events : List UserEvent) (result : Result (Unit {0}) WriteRefusal) (old mid new : FilesState)
+abbrev pub written_file : (script out main bytes : List ℕ) (document : Document) (events : List UserEvent) (result : Result (Unit {0}) Refused) (old mid new : FilesState)
     → HasBuilt script main document events old mid → PlaysAs bytes document → WritesFile mid out bytes result new → HasWrittenFile script out main document events result old new
 written_file script out main bytes document events result old mid new built plays written =
     record { bytes = bytes; mid = mid; built = built; plays = plays; written = written }

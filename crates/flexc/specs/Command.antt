@@ -8,8 +8,8 @@ use Rattle.flex_edge.specs.Calls.{SameCounts, SameOthers, Changes, SinkChanges}
 use Rattle.flexc.specs.declared.command.Status.{Status}
 use Rattle.flex_edge.specs.declared.input.ReadRefusal.{ReadRefusal}
 use Rattle.flex_edge.specs.declared.input.ReadRefusal.TheVariants as read
-use Rattle.flex_edge.specs.declared.output.WriteRefusal.{WriteRefusal}
-use Rattle.flex_edge.specs.declared.output.WriteRefusal.TheVariants as write
+use Rattle.flex_edge.specs.declared.refused.Refused.{Refused}
+use Rattle.flex_edge.specs.declared.refused.Refused.TheVariants as refused
 use Rattle.flex_front.specs.declared.document.Document.{Document}
 use Rattle.flexc.specs.Meaning.{source_trace}
 use Rattle.flexc.specs.PlaysAs.{PlaysAs}
@@ -38,14 +38,14 @@ IsEnd outcome = (outcome ≡ Ended) ⊎ ((outcome ≡ TurnsSpent) ⊎ (outcome �
 -- the main source was read whole, and then the script
 pub record HasRead (script main source commands : List ℕ) (old new : FilesState) : Type 0 where
   pub mid : FilesState
-  pub first : ReadsFile old main (Ok source) mid
-  pub second : ReadsFile mid script (Ok commands) new
+  pub first : ReadsFile 1048576 old main (Ok source) mid
+  pub second : ReadsFile 1048576 mid script (Ok commands) new
 
 -- the first of the two that wasn't read whole, for this reason
 pub data FailsToRead (script main name : List ℕ) (refusal : ReadRefusal) (old new : FilesState) : Type 0 where
-  At_source : (is : name ≡ main) (fails : ReadsFile old main (Err refusal) new) → FailsToRead script main name refusal old new
+  At_source : (is : name ≡ main) (fails : ReadsFile 1048576 old main (Err refusal) new) → FailsToRead script main name refusal old new
   At_script :
-      (source : List ℕ) (mid : FilesState) (first : ReadsFile old main (Ok source) mid) (is : name ≡ script) (fails : ReadsFile mid script (Err refusal) new)
+      (source : List ℕ) (mid : FilesState) (first : ReadsFile 1048576 old main (Ok source) mid) (is : name ≡ script) (fails : ReadsFile 1048576 mid script (Err refusal) new)
       → FailsToRead script main name refusal old new
 
 -- the source was read, and so was a script; the source has this document, and the script says these events
@@ -57,7 +57,7 @@ pub record HasBuilt (script main : List ℕ) (document : Document) (events : Lis
   pub has : HasDocument main source document
 
 -- a file that plays as the document was to be written, and this came of it
-pub record HasWrittenFile (script out main : List ℕ) (document : Document) (events : List UserEvent) (result : Result (Unit {0}) WriteRefusal) (old new : FilesState) : Type 0 where
+pub record HasWrittenFile (script out main : List ℕ) (document : Document) (events : List UserEvent) (result : Result (Unit {0}) Refused) (old new : FilesState) : Type 0 where
   pub bytes : List ℕ
   pub mid : FilesState
   pub built : HasBuilt script main document events old mid
@@ -65,14 +65,14 @@ pub record HasWrittenFile (script out main : List ℕ) (document : Document) (ev
   pub written : WritesFile mid out bytes result new
 
 -- the status after a line was to be printed
-abbrev pub status_after : ℕ → Result (Unit {0}) WriteRefusal → Status
+abbrev pub status_after : ℕ → Result (Unit {0}) Refused → Status
 status_after meant (Ok done) = status meant
-status_after meant (Err write.Failed) = status 8
-status_after meant (Err write.NoMemory) = status 9
+status_after meant (Err refused.Failed) = status 8
+status_after meant (Err refused.NoMemory) = status 9
 
 -- a line was to be printed, and gives this status if it was
 pub record Says (meant : ℕ) (line : List ℕ) (before after : SinkState) (answer : Status) : Type 0 where
-  pub result : Result (Unit {0}) WriteRefusal
+  pub result : Result (Unit {0}) Refused
   pub prints : Prints before (with_end line) result after
   pub is : answer ≡ status_after meant result
 
@@ -83,10 +83,10 @@ pub data HasNoMemory (words : List (List ℕ)) (old new : FilesState) (before af
       (sink : after ≡ before) → HasNoMemory words old new before after
   -- while it was written
   Writing : (script out main : List ℕ) (document : Document) (events : List UserEvent) (are : AreWords words script out main)
-      (written : HasWrittenFile script out main document events (Err write.NoMemory) old new) (sink : after ≡ before) → HasNoMemory words old new before after
+      (written : HasWrittenFile script out main document events (Err refused.NoMemory) old new) (sink : after ≡ before) → HasNoMemory words old new before after
   -- while it was played
   Playing : (script out main : List ℕ) (document : Document) (events : List UserEvent) (are : AreWords words script out main)
-      (written : HasWrittenFile script out main document events (Ok tt) old new) (plays : Plays written.bytes events (turns words) before (Err write.NoMemory) after)
+      (written : HasWrittenFile script out main document events (Ok tt) old new) (plays : Plays written.bytes events (turns words) before (Err refused.NoMemory) after)
       → HasNoMemory words old new before after
 
 -- what a command did, and the status that it answered
@@ -102,10 +102,10 @@ pub data Course (words : List (List ℕ)) (old new : FilesState) (before after :
       (has_read : HasRead script main source commands old new) (has : HasDocument main source document) (other : script_of commands ≡ Err line)
       (says : Says 4 (script_line line) before after answer) → Course words old new before after answer
   Cannot_write : (script out main : List ℕ) (document : Document) (events : List UserEvent) (are : AreWords words script out main)
-      (written : HasWrittenFile script out main document events (Err write.Failed) old new) (says : Says 8 (codes "cannot write " ++ out) before after answer)
+      (written : HasWrittenFile script out main document events (Err refused.Failed) old new) (says : Says 8 (codes "cannot write " ++ out) before after answer)
       → Course words old new before after answer
   Cannot_print : (script out main : List ℕ) (document : Document) (events : List UserEvent) (are : AreWords words script out main)
-      (written : HasWrittenFile script out main document events (Ok tt) old new) (plays : Plays written.bytes events (turns words) before (Err write.Failed) after) (is : answer ≡ status 8)
+      (written : HasWrittenFile script out main document events (Ok tt) old new) (plays : Plays written.bytes events (turns words) before (Err refused.Failed) after) (is : answer ≡ status 8)
       → Course words old new before after answer
   No_memory : (without : HasNoMemory words old new before after) (is : answer ≡ status 9) → Course words old new before after answer
   Has_played : (script out main : List ℕ) (document : Document) (events : List UserEvent) (outcome : Outcome) (are : AreWords words script out main)

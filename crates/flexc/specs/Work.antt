@@ -10,7 +10,7 @@ use Rattle.flexc.specs.declared.command.Job.{Job}
 use Rattle.flexc.specs.declared.command.Status.{Status}
 use Rattle.flex_edge.specs.declared.input.ReadRefusal.{ReadRefusal}
 use Rattle.flex_edge.specs.declared.input.ReadRefusal.TheVariants as read
-use Rattle.flex_edge.specs.declared.output.WriteRefusal.TheVariants as write
+use Rattle.flex_edge.specs.declared.refused.Refused.TheVariants as refused
 use Rattle.flex_front.specs.declared.document.Document.{Document}
 use Rattle.flexc.specs.Command.{status, HasRead, FailsToRead, HasBuilt, HasWrittenFile, Says, HasNoMemory}
 use Rattle.flexc.specs.Lines.{script_of, script_line}
@@ -70,7 +70,7 @@ pub record HasNotWritten (words : List (List ℕ)) (out : List ℕ) (old new : F
   pub document : Document
   pub events : List UserEvent
   pub are : AreWords words script out main
-  pub written : HasWrittenFile script out main document events (Err write.Failed) old new
+  pub written : HasWrittenFile script out main document events (Err refused.Failed) old new
 
 pub record HasNotPrinted (words : List (List ℕ)) (old new : FilesState) (before after : SinkState) : Type 0 where
   pub script : List ℕ
@@ -80,7 +80,7 @@ pub record HasNotPrinted (words : List (List ℕ)) (old new : FilesState) (befor
   pub events : List UserEvent
   pub are : AreWords words script out main
   pub written : HasWrittenFile script out main document events (Ok tt) old new
-  pub plays : Plays written.bytes events (turns words) before (Err write.Failed) after
+  pub plays : Plays written.bytes events (turns words) before (Err refused.Failed) after
 
 pub record HasRun (words : List (List ℕ)) (outcome : Outcome) (old new : FilesState) (before after : SinkState) : Type 0 where
   pub script : List ℕ

@@ -18,12 +18,15 @@ use crate::script::{ScriptRefusal, read_script};
 use crate::words::{Run, read_words};
 use abc_format::write_abc;
 use flex_base::{Bytes, NoMemory, Outcome, Sequence, Text};
-use flex_edge::{Files, Observer, ReadRefusal, Sink, WriteRefusal, print, read_file, write_file};
+use flex_edge::{Files, Observer, ReadRefusal, Refused, Sink, print, read_file, write_file};
 use flex_front::{Document, SourceRefusal, read_source};
 use itoa::Buffer;
 use script_player::play;
 use std::alloc::Global;
 use swf_tags::write_swf;
+
+/// The greatest number of bytes that a source or a script may have.
+const MOST_BYTES: usize = 1_048_576;
 
 /// How a command ended: the exit status of the program.
 #[derive(Clone, Copy, Debug, PartialEq, Eq)]
@@ -132,13 +135,13 @@ fn build_and_play<'a, F: Files, O: Sink>(
     };
     match write_file(files, run.out, swf.as_slice()) {
         Ok(()) => {}
-        Err(WriteRefusal::Failed) => return Err(Failure::CannotWrite(run.out)),
-        Err(WriteRefusal::NoMemory) => return Err(Failure::NoMemory),
+        Err(Refused::Failed) => return Err(Failure::CannotWrite(run.out)),
+        Err(Refused::NoMemory) => return Err(Failure::NoMemory),
     }
     match play(alloc, swf.as_slice(), script.as_slice(), run.turns, out) {
         Ok(outcome) => Ok(outcome),
-        Err(WriteRefusal::Failed) => Err(Failure::CannotPrint),
-        Err(WriteRefusal::NoMemory) => Err(Failure::NoMemory),
+        Err(Refused::Failed) => Err(Failure::CannotPrint),
+        Err(Refused::NoMemory) => Err(Failure::NoMemory),
     }
 }
 
@@ -148,11 +151,11 @@ fn read_job<'a, F: Files>(alloc: Global, run: Run<'a>, files: &mut F) -> Result<
     ensures small { IfOk result (λ job. IsSmall job.document) }
     ensures distinct { IfOk result (λ job. AreNewIds [] job.document.elements) }
 {
-    let source = match read_file(alloc, files, run.main) {
+    let source = match read_file(alloc, files, run.main, MOST_BYTES) {
         Ok(source) => source,
         Err(refusal) => return Err(read_failure(refusal, run.main)),
     };
-    let commands = match read_file(alloc, files, run.script) {
+    let commands = match read_file(alloc, files, run.script, MOST_BYTES) {
         Ok(commands) => commands,
         Err(refusal) => return Err(read_failure(refusal, run.script)),
     };
@@ -241,8 +244,8 @@ fn print_line<O: Sink>(out: &mut O, status: Status, before: &str, name: &str, af
 {
     match print_pieces(out, before, name, after) {
         Ok(()) => status,
-        Err(WriteRefusal::Failed) => Status::WRITE_FAULT,
-        Err(WriteRefusal::NoMemory) => Status::NO_MEMORY,
+        Err(Refused::Failed) => Status::WRITE_FAULT,
+        Err(Refused::NoMemory) => Status::NO_MEMORY,
     }
 }
 
@@ -252,7 +255,7 @@ fn print_pieces<O: Sink>(
     before: &str,
     name: &str,
     after: &str,
-) -> Result<(), WriteRefusal>
+) -> Result<(), Refused>
     ensures { Prints (O.state out.old) (before.now ++ (name.now ++ (after.now ++ 10 ∷ []))) result (O.state out.new) }
 {
     print(out, before.as_bytes())?;

@@ -25,8 +25,8 @@ const CLOSING: &str = "</s:Application>";
 const TRACE: &str =
     "new 1 Main\nnew 2 Label\nset 1.greeting #2\nset 2.text \"Hi\"\nadd 1 2 0\nend\n";
 
-// How the files and the sink behave: the greatest number of bytes a call, and the numbers of the
-// calls that fail, or 0.
+// How the files and the sink behave: the greatest number of bytes that a call takes, and the
+// numbers of the calls that fail, or 0.
 #[derive(Clone, Copy)]
 struct Outside {
     most: usize,
@@ -568,9 +568,15 @@ fn perform_failing(alloc: Global, outside: Outside) -> Result<Left, NoMemory> {
     perform_on(alloc, WORDS, list, outside)
 }
 
-// The source with the label has 150 bytes: where each call moves 16 bytes, it is begun by one call
-// and read by 11, the script is begun and read by 2, and the file is created by one.
-const THIRD_APPEND: u64 = 1 + 11 + 2 + 1 + 3;
+// The source is begun by one call and read by 2, the empty script is begun and read by 2, and the
+// file is created by one.
+const FIRST_OF_SCRIPT: u64 = 4;
+
+const CREATE: u64 = 6;
+
+const FIRST_APPEND: u64 = 7;
+
+const THIRD_APPEND: u64 = 9;
 
 #[test]
 fn a_write_that_fails(rt: HostRuntime) -> Result<(), Fail> {
@@ -588,7 +594,7 @@ fn a_write_that_fails(rt: HostRuntime) -> Result<(), Fail> {
     Ok(())
 }
 
-// The command over a source with the label, where each call moves one byte.
+// The command over a source with the label, where each call takes one byte.
 fn perform_slowly(alloc: Global, fails: u64, sink_fails: u64) -> Result<Left, NoMemory> {
     let outside = Outside {
         most: 1,
@@ -597,14 +603,6 @@ fn perform_slowly(alloc: Global, fails: u64, sink_fails: u64) -> Result<Left, No
     };
     perform_failing(alloc, outside)
 }
-
-// Where each call moves one byte, the source of 150 bytes is begun by one call and read by 151, the
-// script is begun and read by 2, and the file is created by one.
-const FIRST_OF_SCRIPT: u64 = 153;
-
-const CREATE: u64 = 155;
-
-const FIRST_APPEND: u64 = 156;
 
 #[test]
 fn one_byte_at_a_time(rt: HostRuntime) -> Result<(), Fail> {

@@ -7,8 +7,8 @@ use Rattle.flex_base.specs.declared.outcome.Outcome.{Outcome}
 use Rattle.flex_edge.specs.Outside.{Rose, SinkState}
 use Rattle.flex_base.specs.declared.event.UserEvent.{UserEvent}
 use Rattle.avm2_machine.specs.declared.machine.Machine.{Machine}
-use Rattle.flex_edge.specs.declared.output.WriteRefusal.{WriteRefusal}
-use Rattle.flex_edge.specs.declared.output.WriteRefusal.TheVariants as write
+use Rattle.flex_edge.specs.declared.refused.Refused.{Refused}
+use Rattle.flex_edge.specs.declared.refused.Refused.TheVariants as refused
 use Rattle.script_player.specs.AbcReader.{read_abc}
 use Rattle.script_player.specs.Playable.{IsPlayable}
 use Rattle.script_player.specs.Playing.{boot, ComesTo, HasTrace}
@@ -20,7 +20,7 @@ use Rattle.script_player.proofs.Ends.{one_story}
 use Rattle.script_player.proofs.Files.{file_is_read, program_is_read, comes_alike}
 
 -- memory was refused before anything was printed
-pub nothing_printed : (P : Story → Type 0) (old : SinkState) → PrintsText P old (Err write.NoMemory) old
+pub nothing_printed : (P : Story → Type 0) (old : SinkState) → PrintsText P old (Err refused.NoMemory) old
 nothing_printed P old = record {
   tells = refl;
   faults = refl;
@@ -28,11 +28,11 @@ nothing_printed P old = record {
 }
 
 -- the same stories in other words
-printed_alike : (P Q : Story → Type 0) (old new : SinkState) (result : Result Outcome WriteRefusal) → ((story : Story) → P story → Q story) → ((story : Story) → Q story → P story)
+printed_alike : (P Q : Story → Type 0) (old new : SinkState) (result : Result Outcome Refused) → ((story : Story) → P story → Q story) → ((story : Story) → Q story → P story)
     → PrintsText P old result new → PrintsText Q old result new
 printed_alike P Q old new (Ok outcome) to from s = record { story = s.story; is = s.is; trace = to s.story s.trace; printed = s.printed }
-printed_alike P Q old new (Err write.Failed) to from s = record { tells = s.tells; faults = s.faults; told = λ t story trace. s.told t story (from story trace) }
-printed_alike P Q old new (Err write.NoMemory) to from s = record { tells = s.tells; faults = s.faults; told = λ t story trace. s.told t story (from story trace) }
+printed_alike P Q old new (Err refused.Failed) to from s = record { tells = s.tells; faults = s.faults; told = λ t story trace. s.told t story (from story trace) }
+printed_alike P Q old new (Err refused.NoMemory) to from s = record { tells = s.tells; faults = s.faults; told = λ t story trace. s.told t story (from story trace) }
 
 module _ (abc : Abc) (main : List ℕ) (events : List UserEvent) (from : Machine) where
   -- the line of the outcome was printed too
@@ -63,14 +63,14 @@ module _ (abc : Abc) (main : List ℕ) (events : List UserEvent) (from : Machine
         taken = taken.taken ∙ ap (λ l. l ++ taken.part) before ∙ append_assoc old.taken (lines s.story.records) taken.part;
       })
 
-  pub end_printed : (refusal : WriteRefusal) (outcome : Outcome) (old mid new : SinkState) → HasShown abc main events from outcome old mid
+  pub end_printed : (refusal : Refused) (outcome : Outcome) (old mid new : SinkState) → HasShown abc main events from outcome old mid
       → Prints mid (with_end (outcome_line outcome)) (Err refusal) new → PrintsText (ComesTo abc main events from) old (Err refusal) new
-  end_printed write.Failed outcome old mid new s p = record {
+  end_printed refused.Failed outcome old mid new s p = record {
     tells = p.tells ∙ s.printed.tells;
     faults = subst (λ n. Rose n new.write_faults) s.printed.faults p.faults;
     told = λ t. line_part outcome old mid new s (s.printed.told t) (p.told (s.printed.tells ∙ t));
   }
-  end_printed write.NoMemory outcome old mid new s p = record {
+  end_printed refused.NoMemory outcome old mid new s p = record {
     tells = p.tells ∙ s.printed.tells;
     faults = p.faults ∙ s.printed.faults;
     told = λ t. line_part outcome old mid new s (s.printed.told t) (p.told (s.printed.tells ∙ t));
@@ -97,7 +97,7 @@ module _ (swf : List ℕ) (f : IsPlayable swf) where
     program_is_there none = none_is _ (sym (program_is_read swf f) ∙ ap read_abc code_is ∙ none)
 
     -- what was read of the file was played
-    pub file_played : (abc : Abc) (events : List UserEvent) (turns : ℕ) (result : Result Outcome WriteRefusal) (old new : SinkState) → read_abc code ≡ Some abc
+    pub file_played : (abc : Abc) (events : List UserEvent) (turns : ℕ) (result : Result Outcome Refused) (old new : SinkState) → read_abc code ≡ Some abc
         → PrintsText (ComesTo abc main events (boot abc turns)) old result new → Plays swf events turns old result new
     file_played abc events turns result old new program =
         let abc_is : f.abc ≡ abc = some_is _ _ (sym (program_is_read swf f) ∙ ap read_abc code_is ∙ program) in

@@ -7,8 +7,8 @@ use Rattle.flex_base.specs.declared.outcome.Outcome.{Outcome}
 use Rattle.flex_base.specs.declared.record.TraceItem.{TraceItem}
 use Rattle.flex_edge.specs.Outside.{Rose, SinkState}
 use Rattle.avm2_machine.specs.declared.machine.Machine.{Machine}
-use Rattle.flex_edge.specs.declared.output.WriteRefusal.{WriteRefusal}
-use Rattle.flex_edge.specs.declared.output.WriteRefusal.TheVariants as write
+use Rattle.flex_edge.specs.declared.refused.Refused.{Refused}
+use Rattle.flex_edge.specs.declared.refused.Refused.TheVariants as refused
 use Rattle.avm2_machine.specs.Machine.{step, result_of}
 use Rattle.script_player.specs.Playing.{Config, and_item, moved_on, advance, advance_from, run, first}
 use Rattle.script_player.specs.Printed.{item_lines, HasRun, HasRunPart, Runs}
@@ -87,14 +87,14 @@ module _ (abc : Abc) (main : List ℕ) where
         };
       }
 
-  pub run_stops : (from m to : Machine) (old mid new : SinkState) (refusal : WriteRefusal) → HasRun abc main from m old mid → result_of m ≡ None
+  pub run_stops : (from m to : Machine) (old mid new : SinkState) (refusal : Refused) → HasRun abc main from m old mid → result_of m ≡ None
       → Prints mid (item_lines (step abc main m).item) (Err refusal) new → Runs abc main from old (Err refusal) to new
-  run_stops from m to old mid new write.Failed h still prints = record {
+  run_stops from m to old mid new refused.Failed h still prints = record {
     tells = prints.tells ∙ h.printed.tells;
     faults = subst (λ n. Rose n new.write_faults) h.printed.faults prints.faults;
     told = λ t. part_run from m old mid new h still (h.printed.told t) (prints.told (h.printed.tells ∙ t));
   }
-  run_stops from m to old mid new write.NoMemory h still prints = record {
+  run_stops from m to old mid new refused.NoMemory h still prints = record {
     tells = prints.tells ∙ h.printed.tells;
     faults = prints.faults ∙ h.printed.faults;
     told = λ t. part_run from m old mid new h still (h.printed.told t) (prints.told (h.printed.tells ∙ t));

@@ -13,8 +13,8 @@ use Rattle.flex_edge.specs.Outside.{Rose, SinkState}
 use Rattle.flex_edge.specs.Calls.{SinkChanges}
 use Rattle.flex_base.specs.declared.event.UserEvent.{UserEvent}
 use Rattle.avm2_machine.specs.declared.machine.Machine.{Machine}
-use Rattle.flex_edge.specs.declared.output.WriteRefusal.{WriteRefusal}
-use Rattle.flex_edge.specs.declared.output.WriteRefusal.TheVariants as write
+use Rattle.flex_edge.specs.declared.refused.Refused.{Refused}
+use Rattle.flex_edge.specs.declared.refused.Refused.TheVariants as refused
 use Rattle.avm2_machine.specs.Machine.{begins, idle, step, result_of}
 use Rattle.script_player.specs.Playing.{Config, Play, and_item, over, over_with, run, first, goes_on, goes_from, next, played, opening, ComesTo}
 use Rattle.script_player.specs.Printed.{HasRun, HasRunPart, Runs, HasShown, Shows}
@@ -182,23 +182,23 @@ module _ (abc : Abc) (main : List ℕ) where
         regroup a b x y z = ap (λ l. (l ++ y) ++ z) (sym (append_assoc a b x)) ∙ ap (λ l. l ++ z) (append_assoc (a ++ b) x y) ∙ append_assoc (a ++ b) (x ++ y) z ∙ ap (λ l. (a ++ b) ++ l) (append_assoc x y z)
 
     -- a run was refused
-    pub playing_refused : (m to : Machine) (left : List UserEvent) (old mid new : SinkState) (refusal : WriteRefusal) → IsPlaying old m left mid
+    pub playing_refused : (m to : Machine) (left : List UserEvent) (old mid new : SinkState) (refusal : Refused) → IsPlaying old m left mid
         → Runs abc main m mid (Err refusal) to new → Shows abc main events from old (Err refusal) new
-    playing_refused m to left old mid new write.Failed p h = record {
+    playing_refused m to left old mid new refused.Failed p h = record {
       tells = h.tells ∙ p.printed.tells;
       faults = subst (λ n. Rose n new.write_faults) p.printed.faults h.faults;
       told = λ t. part_shown m left old mid new p (p.printed.told t) (h.told (p.printed.tells ∙ t));
     }
-    playing_refused m to left old mid new write.NoMemory p h = record {
+    playing_refused m to left old mid new refused.NoMemory p h = record {
       tells = h.tells ∙ p.printed.tells;
       faults = h.faults ∙ p.printed.faults;
       told = λ t. part_shown m left old mid new p (p.printed.told t) (h.told (p.printed.tells ∙ t));
     }
 
     -- memory was refused between two prints
-    pub playing_starved : (m : Machine) (left : List UserEvent) (old new : SinkState) → IsPlaying old m left new → Shows abc main events from old (Err write.NoMemory) new
+    pub playing_starved : (m : Machine) (left : List UserEvent) (old new : SinkState) → IsPlaying old m left new → Shows abc main events from old (Err refused.NoMemory) new
     playing_starved m left old new p =
-        playing_refused m m left old new new write.NoMemory p
+        playing_refused m m left old new new refused.NoMemory p
         (record {
           tells = refl;
           faults = refl;

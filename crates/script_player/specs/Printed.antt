@@ -7,8 +7,8 @@ use Rattle.flex_edge.specs.Outside.{Rose, SinkState}
 use Rattle.flex_edge.specs.Calls.{SinkChanges}
 use Rattle.flex_base.specs.declared.event.UserEvent.{UserEvent}
 use Rattle.avm2_machine.specs.declared.machine.Machine.{Machine}
-use Rattle.flex_edge.specs.declared.output.WriteRefusal.{WriteRefusal}
-use Rattle.flex_edge.specs.declared.output.WriteRefusal.TheVariants as write
+use Rattle.flex_edge.specs.declared.refused.Refused.{Refused}
+use Rattle.flex_edge.specs.declared.refused.Refused.TheVariants as refused
 use Rattle.script_player.specs.Playing.{first, run, ComesTo, HasTrace}
 use Rattle.flex_base.specs.Story.{Story, record_line, lines, text}
 use Rattle.flex_edge.specs.Whole.{HasTaken}
@@ -30,10 +30,10 @@ pub record HasRunPart (abc : Abc) (main : List ℕ) (from : Machine) (old new : 
   pub taken : HasTaken (lines (run abc main steps (first from)).records) old new
 
 -- what steps of the machine by itself print; after a refusal a first part of the lines
-abbrev pub Runs : Abc → List ℕ → Machine → SinkState → Result (Unit {0}) WriteRefusal → Machine → SinkState → Type 0
+abbrev pub Runs : Abc → List ℕ → Machine → SinkState → Result (Unit {0}) Refused → Machine → SinkState → Type 0
 Runs abc main from old (Ok done) to new = HasRun abc main from to old new
-Runs abc main from old (Err write.Failed) to new = SinkChanges old new (Rose old.write_faults new.write_faults) (HasRunPart abc main from old new)
-Runs abc main from old (Err write.NoMemory) to new = SinkChanges old new (new.write_faults ≡ old.write_faults) (HasRunPart abc main from old new)
+Runs abc main from old (Err refused.Failed) to new = SinkChanges old new (Rose old.write_faults new.write_faults) (HasRunPart abc main from old new)
+Runs abc main from old (Err refused.NoMemory) to new = SinkChanges old new (new.write_faults ≡ old.write_faults) (HasRunPart abc main from old new)
 
 -- the play of a script from a machine on came to its end, and a line for each record was printed
 pub record HasShown (abc : Abc) (main : List ℕ) (events : List UserEvent) (from : Machine) (outcome : Outcome) (old new : SinkState) : Type 0 where
@@ -43,11 +43,11 @@ pub record HasShown (abc : Abc) (main : List ℕ) (events : List UserEvent) (fro
   pub printed : SinkChanges old new (new.write_faults ≡ old.write_faults) (new.taken ≡ old.taken ++ lines story.records)
 
 -- what the play of a script from a machine on prints, before the line of its outcome; after a refusal a first part of the text
-abbrev pub Shows : Abc → List ℕ → List UserEvent → Machine → SinkState → Result Outcome WriteRefusal → SinkState → Type 0
+abbrev pub Shows : Abc → List ℕ → List UserEvent → Machine → SinkState → Result Outcome Refused → SinkState → Type 0
 Shows abc main events from old (Ok outcome) new = HasShown abc main events from outcome old new
-Shows abc main events from old (Err write.Failed) new =
+Shows abc main events from old (Err refused.Failed) new =
     SinkChanges old new (Rose old.write_faults new.write_faults) ((story : Story) → ComesTo abc main events from story → HasTaken (text story) old new)
-Shows abc main events from old (Err write.NoMemory) new =
+Shows abc main events from old (Err refused.NoMemory) new =
     SinkChanges old new (new.write_faults ≡ old.write_faults) ((story : Story) → ComesTo abc main events from story → HasTaken (text story) old new)
 
 -- the text of such a story was printed whole
@@ -58,16 +58,16 @@ pub record HasPrinted (P : Story → Type 0) (outcome : Outcome) (old new : Sink
   pub printed : SinkChanges old new (new.write_faults ≡ old.write_faults) (new.taken ≡ old.taken ++ text story)
 
 -- what the printing of such a story does; after a refusal a first part of its text was printed
-abbrev pub PrintsText : (Story → Type 0) → SinkState → Result Outcome WriteRefusal → SinkState → Type 0
+abbrev pub PrintsText : (Story → Type 0) → SinkState → Result Outcome Refused → SinkState → Type 0
 PrintsText P old (Ok outcome) new = HasPrinted P outcome old new
-PrintsText P old (Err write.Failed) new =
+PrintsText P old (Err refused.Failed) new =
     SinkChanges old new (Rose old.write_faults new.write_faults) ((story : Story) → P story → HasTaken (text story) old new)
-PrintsText P old (Err write.NoMemory) new =
+PrintsText P old (Err refused.NoMemory) new =
     SinkChanges old new (new.write_faults ≡ old.write_faults) ((story : Story) → P story → HasTaken (text story) old new)
 
 -- what the play of the bytes with a script and so many turns prints
 abbrev pub HasPlayed : List ℕ → List UserEvent → ℕ → Outcome → SinkState → SinkState → Type 0
 HasPlayed swf events turns outcome old new = HasPrinted (HasTrace swf events turns) outcome old new
 
-abbrev pub Plays : List ℕ → List UserEvent → ℕ → SinkState → Result Outcome WriteRefusal → SinkState → Type 0
+abbrev pub Plays : List ℕ → List UserEvent → ℕ → SinkState → Result Outcome Refused → SinkState → Type 0
 Plays swf events turns old result new = PrintsText (HasTrace swf events turns) old result new

@@ -14,7 +14,7 @@ use crate::swf_reader::read_swf;
 use abc_format::Abc;
 use avm2_machine::Machine;
 use flex_base::{Bytes, Outcome, Text, TraceItem, UserEvent, line_of};
-use flex_edge::{Sink, WriteRefusal, print};
+use flex_edge::{Refused, Sink, print};
 use std::alloc::Global;
 
 /// Plays a SWF file with a script and so many turns, and prints the trace: from the load on, and
@@ -25,7 +25,7 @@ pub fn play<O: Sink>(
     script: &[UserEvent],
     turns: u32,
     out: &mut O,
-) -> Result<Outcome, WriteRefusal>
+) -> Result<Outcome, Refused>
     requires { IsPlayable swf.now }
     ensures { Plays swf.now script.now turns (O.state out.old) result (O.state out.new) }
 {
@@ -35,7 +35,7 @@ pub fn play<O: Sink>(
     match read_abc(alloc, parts.abc) {
         Ok(abc) => play_program(alloc, &abc, parts.main, script, turns, out),
         Err(ReadFault::Bad) => unreachable!(),
-        Err(ReadFault::NoMemory) => Err(WriteRefusal::NoMemory),
+        Err(ReadFault::NoMemory) => Err(Refused::NoMemory),
     }
 }
 
@@ -47,7 +47,7 @@ fn play_program<O: Sink>(
     script: &[UserEvent],
     turns: u32,
     out: &mut O,
-) -> Result<Outcome, WriteRefusal>
+) -> Result<Outcome, Refused>
     ensures { PrintsText (ComesTo abc.now main.now script.now (boot abc.now turns)) (O.state out.old) result (O.state out.new) }
 {
     let main = Text::make(alloc, main)?;
@@ -65,7 +65,7 @@ fn play_script<O: Sink>(
     script: &[UserEvent],
     machine: &mut Machine,
     out: &mut O,
-) -> Result<Outcome, WriteRefusal>
+) -> Result<Outcome, Refused>
     ensures { Shows abc.now main.now script.now machine.old (O.state out.old) result (O.state out.new) }
 {
     for event in script {
@@ -86,7 +86,7 @@ fn run<O: Sink>(
     main: &Text,
     machine: &mut Machine,
     out: &mut O,
-) -> Result<(), WriteRefusal>
+) -> Result<(), Refused>
     ensures printed { Runs abc.now main.now machine.old (O.state out.old) result machine.new (O.state out.new) }
     ensures rests { OnOk result (result_of machine.new ≢ None) }
 {
@@ -103,7 +103,7 @@ fn advance<O: Sink>(
     main: &Text,
     machine: &mut Machine,
     out: &mut O,
-) -> Result<(), WriteRefusal>
+) -> Result<(), Refused>
     ensures moved { OnOk result (machine.new ≡ (step abc.now main.now machine.old).machine) }
     ensures lowers { OnOk result (result_of machine.old ≡ None → remaining abc.now machine.new < remaining abc.now machine.old) }
     ensures printed { Prints (O.state out.old) (item_lines (step abc.now main.now machine.old).item) result (O.state out.new) }
@@ -115,7 +115,7 @@ fn advance<O: Sink>(
 }
 
 // Prints the line of a record.
-fn print_record<O: Sink>(alloc: Global, item: &TraceItem, out: &mut O) -> Result<(), WriteRefusal>
+fn print_record<O: Sink>(alloc: Global, item: &TraceItem, out: &mut O) -> Result<(), Refused>
     ensures { Prints (O.state out.old) (record_line item.now) result (O.state out.new) }
 {
     let line = line_of(alloc, item)?;
@@ -123,7 +123,7 @@ fn print_record<O: Sink>(alloc: Global, item: &TraceItem, out: &mut O) -> Result
 }
 
 // Prints a line and its end.
-fn print_line<O: Sink>(alloc: Global, line: &[u8], out: &mut O) -> Result<(), WriteRefusal>
+fn print_line<O: Sink>(alloc: Global, line: &[u8], out: &mut O) -> Result<(), Refused>
     ensures { Prints (O.state out.old) (with_end line.now) result (O.state out.new) }
 {
     let mut bytes = Bytes::new(alloc);

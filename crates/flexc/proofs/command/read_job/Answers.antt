@@ -7,14 +7,14 @@ use Rattle.flexc.proofs.command.read_job.Goals as goal
 
 pub returns-in-Err-read_file-clause-read : goal.returns-in-Err-read_file-clause-read
 returns-in-Err-read_file-clause-read g c =
-    let first : ReadsFile (g.F.Files.state c.args.files.now) c.args.run.main.now (Ok c.in-Ok.source) (g.F.Files.state c.read_file.new.files) = search rules in
-    let second : ReadsFile (g.F.Files.state c.read_file.new.files) c.args.run.script.now (Err c.in-Err-read_file.refusal) (g.F.Files.state c.read_file-2.new.files) = search rules in
+    let first : ReadsFile 1048576 (g.F.Files.state c.args.files.now) c.args.run.main.now (Ok c.in-Ok.source) (g.F.Files.state c.read_file.new.files) = search rules in
+    let second : ReadsFile 1048576 (g.F.Files.state c.read_file.new.files) c.args.run.script.now (Err c.in-Err-read_file.refusal) (g.F.Files.state c.read_file-2.new.files) = search rules in
     let is : c.read_failure-in-Err-read_file.result ≡ read_failure c.in-Err-read_file.refusal c.args.run.script = search rules in
     rw is (script_unread c.args.run.script _ c.in-Ok.source _ _ _ c.in-Err-read_file.refusal first second)
 
 pub returns-in-Err-NotYetBuilt-clause-read : goal.returns-in-Err-NotYetBuilt-clause-read
 returns-in-Err-NotYetBuilt-clause-read g c =
-    let first : ReadsFile (g.F.Files.state c.args.files.now) c.args.run.main.now (Ok c.in-Ok.source) (g.F.Files.state c.read_file.new.files) = search rules in
-    let second : ReadsFile (g.F.Files.state c.read_file.new.files) c.args.run.script.now (Ok c.in-Ok-read_file.commands) (g.F.Files.state c.read_file-2.new.files) = search rules in
+    let first : ReadsFile 1048576 (g.F.Files.state c.args.files.now) c.args.run.main.now (Ok c.in-Ok.source) (g.F.Files.state c.read_file.new.files) = search rules in
+    let second : ReadsFile 1048576 (g.F.Files.state c.read_file.new.files) c.args.run.script.now (Ok c.in-Ok-read_file.commands) (g.F.Files.state c.read_file-2.new.files) = search rules in
     let refused : IsNotBuilt c.args.run.main.now c.in-Ok.source = subst (IsNotBuilt c.args.run.main.now) c.as_slice.ensures (c.in-Err-NotYetBuilt.ensures.refused c.in-Err-NotYetBuilt.field-0-is) in
     (refl, is_refused _ _ c.in-Ok.source c.in-Ok-read_file.commands _ _ _ first second refused)

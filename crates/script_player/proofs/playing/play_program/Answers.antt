@@ -1,6 +1,6 @@
 use Rattle.std.proofs.Common.{rules, ◌≡◌, Ok, Err}
 use Rattle.flex_base.specs.Line.{outcome_line}
-use Rattle.flex_edge.specs.declared.output.WriteRefusal.TheVariants as write
+use Rattle.flex_edge.specs.declared.refused.Refused.TheVariants as refused
 use Rattle.script_player.specs.Playing.{ComesTo, boot}
 use Rattle.script_player.specs.Printed.{HasShown}
 use Rattle.flex_base.specs.Story.{with_end}
@@ -10,7 +10,7 @@ use Rattle.script_player.proofs.playing.play_program.Goals as goal
 
 pub returns-in_err-machine : goal.returns-in_err-machine
 returns-in_err-machine g c =
-    let is : c.from_residual-in_err-machine.result ≡ Err write.NoMemory = search rules in
+    let is : c.from_residual-in_err-machine.result ≡ Err refused.NoMemory = search rules in
     rw is (nothing_printed (ComesTo c.args.abc.now c.args.main.now c.args.script.now (boot c.args.abc.now c.args.turns)) (g.O.Sink.state c.args.out.now))
 
 pub returns-in_err-print_line : goal.returns-in_err-print_line

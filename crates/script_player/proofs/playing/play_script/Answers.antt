@@ -1,6 +1,6 @@
 use Rattle.std.proofs.Common.{rules, arith, ◌≡◌, ◌+◌, ◌<◌, ◌≤◌, ◌∷◌, None, Err, length, drop, sym, ap, ◌∙◌, subst}
 use Rattle.std.proofs.lemmas.List.{drop_more, drop_all}
-use Rattle.flex_edge.specs.declared.output.WriteRefusal.TheVariants as write
+use Rattle.flex_edge.specs.declared.refused.Refused.TheVariants as refused
 use Rattle.script_player.proofs.Shown.{IsPlaying, playing_runs, playing_line, playing_stops, playing_ends, playing_refused, playing_starved}
 use Rattle.script_player.proofs.playing.play_script.Goals as goal
 
@@ -15,7 +15,7 @@ returns-in-Some g c =
 
 pub returns-in_err-start : goal.returns-in_err-start
 returns-in_err-start g c =
-    let is : c.from_residual-in_err-start.result ≡ Err write.NoMemory = search rules in
+    let is : c.from_residual-in_err-start.result ≡ Err refused.NoMemory = search rules in
     rw is (playing_starved _ _ _ _ _ _ _ _ (playing_runs _ _ _ _ _ _ _ _ _ _ c.loop-event.invariant c.in_ok-run.ensures.printed))
 
 pub loop-event-preserved : goal.loop-event-preserved
