@@ -5,21 +5,10 @@ ghost use Rattle.byteorder.specs.Endian.{little_bytes};
 ghost use Rattle.swf_tags.specs.File.{IsSwf, written_tags};
 ghost use Rattle.swf_tags.specs.Spelling.{swf_bytes, content, tag, header, long_header, zero_ended, abc_body, symbol_body, do_abc_tag, frame_header, tags};
 
+use crate::codes::{DO_ABC, END, FILE_ATTRIBUTES, LONG_FORM, SET_BACKGROUND_COLOR, SHOW_FRAME, SYMBOL_CLASS};
 use byteorder::{ByteOrder, LittleEndian};
 use flex_base::{Bytes, NoMemory, Text};
 use std::alloc::Global;
-
-const END: u16 = 0;
-
-const SHOW_FRAME: u16 = 1;
-
-const SET_BACKGROUND_COLOR: u16 = 9;
-
-const FILE_ATTRIBUTES: u16 = 69;
-
-const SYMBOL_CLASS: u16 = 76;
-
-const DO_ABC: u16 = 82;
 
 /// The version of the written files.
 const VERSION: u8 = 10;
