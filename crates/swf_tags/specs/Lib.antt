@@ -4,3 +4,4 @@ pub mod Swf
 pub mod Fields
 pub mod Reading
 pub mod Views
+pub mod Laws

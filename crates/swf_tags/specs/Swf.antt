@@ -7,6 +7,10 @@ use Rattle.flex_base.specs.Split.{Split, Each}
 use Rattle.swf_tags.specs.Spelling.{end_tag, show_frame, set_background_color, file_attributes, symbol_class, do_abc, long_header, zero_ended, abc_body, symbol_body}
 use Rattle.swf_tags.specs.declared.types.Tag.{Tag}
 
+-- numbers that bytes can have
+abbrev pub AreBytes : List ℕ → Type 0
+AreBytes bytes = All (λ byte. byte < 256) bytes
+
 -- a tag as it stands in a file: its code, whether its header is the long one, and the bytes of its body
 pub record Part : Type 0 where
   pub code : ℕ

@@ -3,12 +3,14 @@
 
 mod codes;
 mod fields;
+mod laws;
 mod reading;
 #[cfg(test)]
 mod tests;
 mod types;
 mod writing;
 
+pub use laws::{laws_of_reading, laws_of_writing};
 pub use reading::read_swf;
 pub use types::{Swf, SwfReason, SwfRefusal, Tag, Tags};
 pub use writing::write_swf;
