@@ -13,7 +13,7 @@ use Rattle.std.proofs.Math.Seq.{take-append_seam, drop-append_seam, drop-append-
 use Rattle.byteorder.specs.Endian.{little_bytes, little_number, little_from}
 use Rattle.byteorder.specs.Numbers.{little_number-reads_back, length-bytes_low_first, little_from-cons}
 use Rattle.swf_tags.specs.Spelling.{zero_ended}
-use Rattle.swf_tags.specs.Swf.{AreBytes, IsName}
+use Rattle.swf_tags.specs.File.{AreBytes, IsName}
 use Rattle.swf_tags.specs.Fields.{Front, split, number_of, number, name_to, name}
 
 -- a split of the first n bytes

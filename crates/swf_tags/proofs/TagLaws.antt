@@ -5,7 +5,7 @@ use Rattle.std.specs.Option.{is_none}
 use Rattle.std.proofs.lemmas.Bool.{eq-eqb, ne_eqb, eqb-true, eqb-false, cases_eq}
 use Rattle.flex_base.specs.Split.{Split, Each}
 use Rattle.swf_tags.specs.Spelling.{end_tag, symbol_class, do_abc}
-use Rattle.swf_tags.specs.Swf.{AreBytes, Part, Pair, IsPart, EndsOnce, bodies, IsProgram, IsDoAbc, AreSymbols, IsSymbolClass, first_of, main_in, main_among, part_size, tag_at, tags_at}
+use Rattle.swf_tags.specs.File.{AreBytes, Part, Pair, IsPart, EndsOnce, bodies, IsProgram, IsDoAbc, AreSymbols, IsSymbolClass, first_of, main_in, main_among, part_size, tag_at, tags_at}
 use Rattle.swf_tags.specs.Fields.{Front}
 use Rattle.swf_tags.specs.Reading.{next_part, read_program, read_symbols, Seen, with_program, with_symbols, with_body, ended, go_on, after_part, read_tags, fails}
 use Rattle.swf_tags.specs.declared.types.Fault.{Fault}

@@ -9,8 +9,8 @@ use Rattle.byteorder.specs.Endian.{little_bytes}
 use Rattle.byteorder.specs.Numbers.{length-bytes_low_first}
 use Rattle.flex_base.specs.Split.{Each}
 use Rattle.swf_tags.specs.Spelling.{end_tag, show_frame, set_background_color, file_attributes, symbol_class, do_abc, long_header, header, tag, zero_ended, frame_header, abc_body, symbol_body, do_abc_tag, tags, content, swf_bytes}
-use Rattle.swf_tags.specs.Swf.{Part, IsHeader, IsPart, IsName, IsDoAbc, IsPair, IsSymbolClass, EndsOnce, IsSwf, written_parts, written_tags}
-use Rattle.swf_tags.specs.Laws.{SwfIsWritten}
+use Rattle.swf_tags.specs.File.{Part, IsHeader, IsPart, IsName, IsDoAbc, IsPair, IsSymbolClass, EndsOnce, IsSwf, written_parts, written_tags}
+use Rattle.swf_tags.specs.SwfLaws.{SwfIsWritten}
 use Rattle.swf_tags.proofs.PartLaws.{both}
 
 short-is_part : (code : ℕ) (body : List ℕ) → code < 1024 → length body < 63 → IsPart (record { code = code; long = false; body = body }) (tag code body)
@@ -126,8 +126,8 @@ content-size main abc =
     omega arith
 
 -- what is written is a SWF file with both in it
-pub written_is_swf : SwfIsWritten
-written_is_swf main abc no_zero valid fits =
+pub written-is_swf : SwfIsWritten
+written-is_swf main abc no_zero valid fits =
     let size = content-size main abc in
     let said : 8 + length (content main abc) ≡ length (swf_bytes main abc) = omega arith in
     record {

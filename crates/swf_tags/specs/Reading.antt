@@ -3,7 +3,7 @@
 use Rattle.std.specs.Prelude.{◌≡◌, ℕ, zero, suc, ◌+◌, ◌/◌, ◌%◌, ◌&&◌, ◌||◌, Bool, true, false, List, [], ◌∷◌, ◌++◌, length, if◌then◌else◌, ◌==◌, Option, Some, None, Result, Ok, Err}
 use Rattle.std.specs.Option.{option_copied, is_none}
 use Rattle.swf_tags.specs.Spelling.{end_tag, symbol_class, do_abc}
-use Rattle.swf_tags.specs.Swf.{Part, Pair, part_size, tag_at, first_of, main_of, rectangle_size}
+use Rattle.swf_tags.specs.File.{Part, Pair, part_size, tag_at, first_of, main_of, rectangle_size}
 use Rattle.swf_tags.specs.Fields.{Front, split, number, name}
 use Rattle.swf_tags.specs.declared.types.Fault.{Fault}
 use Rattle.swf_tags.specs.declared.types.Swf.{Swf}

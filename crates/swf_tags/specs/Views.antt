@@ -1,7 +1,7 @@
 -- The reader's structs as what the reading speaks of.
 use Rattle.std.specs.Prelude.{ℕ, List}
 use Rattle.std.specs.Option.{option_copied}
-use Rattle.swf_tags.specs.Swf as swf
+use Rattle.swf_tags.specs.File as swf
 use Rattle.swf_tags.specs.Fields.{Front}
 use Rattle.swf_tags.specs.Reading as reading
 use Rattle.swf_tags.specs.declared.reading.Found.{Found}

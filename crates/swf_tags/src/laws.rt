@@ -1,6 +1,6 @@
 // What holds of the reading and the writing of all files.
 
-ghost use Rattle.swf_tags.specs.Laws.{SwfIsRead, SwfIsReadBack, SwfIsWritten, SwfOrFault};
+ghost use Rattle.swf_tags.specs.SwfLaws.{SwfIsRead, SwfIsReadBack, SwfIsWritten, SwfOrFault};
 
 /// The laws of reading: bytes are a SWF file that says something exactly where that is read, so
 /// that all bytes either are a SWF file or have a first fault, and not both.

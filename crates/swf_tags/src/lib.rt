@@ -1,8 +1,8 @@
 //! The SWF format: uncompressed files with one program in them, read and written.
 #![tactic(auto)]
 
-mod codes;
 mod fields;
+mod format;
 mod laws;
 mod reading;
 #[cfg(test)]

@@ -4,11 +4,11 @@ ghost use Rattle.std.specs.Prelude.{◌≡◌, ◌+◌, ◌<◌, ◌^◌, length
 ghost use Rattle.swf_tags.specs.Fields.{Gives};
 ghost use Rattle.swf_tags.specs.Reading.{Refuses, behind_signature, ended, next_header, next_pair, next_part, nothing, read_head, read_program, read_swf, read_symbols, read_tags, with_body, with_program, with_symbols};
 ghost use Rattle.std.specs.Option.{option_copied};
-ghost use Rattle.swf_tags.specs.Swf.{header_size, main_of, part_size, rectangle_size, tag_at};
+ghost use Rattle.swf_tags.specs.File.{header_size, main_of, part_size, rectangle_size, tag_at};
 ghost use Rattle.swf_tags.specs.Views.{header_view, head_view, pair_view, part_view, seen};
 
-use crate::codes::{DO_ABC, END, LONG_FORM, SYMBOL_CLASS};
 use crate::fields::{name, number_of_four, number_of_two};
+use crate::format::{CODE_UNIT, DO_ABC, END, FIXED_SIZE, FRAMES_SIZE, LENGTH_PLACE, LONG_FORM, SIGNATURE_SIZE, SYMBOL_CLASS};
 use crate::types::{Fault, Swf, SwfReason, SwfRefusal, Tag, Tags};
 use flex_base::{Bytes, NoMemory, Text};
 use std::alloc::Global;
@@ -42,18 +42,7 @@ struct Head<'a> {
     rest: &'a [u8],
 }
 
-// The place of the header behind the signature.
-const HEAD_PLACE: usize = 3;
-
-// The place of the length of the file.
-const LENGTH_PLACE: usize = 4;
-
-// The bytes of the signature, the version and the length.
-const FIXED_SIZE: usize = 8;
-
-// The bytes of the frame rate and the number of frames.
-const FRAMES_SIZE: usize = 4;
-
+// The signature, and what stands behind it before the tags.
 #[tactic(auto, unfolding(crate::specs::Reading::read_head))]
 fn read_head(bytes: &[u8]) -> Result<Head<'_>, Fault>
     ensures value { MatchResult result (λ head. read_head bytes.now ≡ Ok (head_view head)) (λ fault. read_head bytes.now ≡ Err fault) }
@@ -61,7 +50,7 @@ fn read_head(bytes: &[u8]) -> Result<Head<'_>, Fault>
 {
     match bytes {
         [b'F', b'W', b'S', rest @ ..] => behind_signature(rest).ok_or(Fault {
-            place: HEAD_PLACE,
+            place: SIGNATURE_SIZE,
             reason: SwfReason::Rect,
         }),
         [b'C' | b'Z', b'W', b'S', ..] => Err(Fault {
@@ -75,6 +64,7 @@ fn read_head(bytes: &[u8]) -> Result<Head<'_>, Fault>
     }
 }
 
+// The version, the length of the file, the rectangle, the frame rate and the number of frames.
 #[tactic(auto, unfolding(crate::specs::Reading::behind_signature, crate::specs::Fields::split))]
 fn behind_signature(bytes: &[u8]) -> Option<Head<'_>>
     ensures value { MatchOption result (behind_signature bytes.now ≡ None) (λ head. behind_signature bytes.now ≡ Some (head_view head)) }
@@ -196,8 +186,8 @@ fn next_header(bytes: &[u8]) -> Option<Header<'_>>
     ensures size { IfSome result (λ h. header_size h.long + length h.rest.now ≡ length bytes.now) }
 {
     let (field, rest) = number_of_two(bytes)?;
-    let code = field / 64;
-    let short = field % 64;
+    let code = field / CODE_UNIT;
+    let short = field % CODE_UNIT;
     if short == LONG_FORM {
         let (length, rest) = number_of_four(rest)?;
         Some(Header {

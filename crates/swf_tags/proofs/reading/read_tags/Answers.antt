@@ -1,6 +1,6 @@
 use Rattle.std.proofs.Common.{rules, arith, ◌≡◌, ◌≢◌, ◌+◌, ◌-◌, ◌<◌, List, [], ◌∷◌, ◌++◌, length, Err, ap, ◌∙◌}
 use Rattle.swf_tags.specs.Spelling.{end_tag}
-use Rattle.swf_tags.specs.Swf.{part_size, tag_at}
+use Rattle.swf_tags.specs.File.{part_size, tag_at}
 use Rattle.swf_tags.specs.Views.{part_view, seen}
 use Rattle.swf_tags.specs.declared.types.SwfRefusal.TheVariants as refusal
 use Rattle.swf_tags.proofs.Walks.{leads_no_further, leads_on, some-header}

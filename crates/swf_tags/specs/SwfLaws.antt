@@ -2,7 +2,7 @@
 use Rattle.std.specs.Prelude.{◌≡◌, ◌≢◌, ◌↔◌, ◌⊎◌, ℕ, ◌+◌, ◌≤◌, List, length, All, Option, Some, None, Ok}
 use Rattle.std.specs.Str.{IsUtf8}
 use Rattle.swf_tags.specs.Spelling.{swf_bytes}
-use Rattle.swf_tags.specs.Swf.{AreBytes, IsSwf, written_tags}
+use Rattle.swf_tags.specs.File.{AreBytes, IsSwf, written_tags}
 use Rattle.swf_tags.specs.Reading.{read_swf, swf_fault}
 use Rattle.swf_tags.specs.declared.types.Fault.{Fault}
 use Rattle.swf_tags.specs.declared.types.Swf.{Swf}
