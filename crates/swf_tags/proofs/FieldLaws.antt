@@ -158,12 +158,14 @@ name-gives bytes it rest e = at (nat_lt (position_or_len (λ byte. byte == 0) by
         let both = some_is _ _ g in
         let is : take end bytes ≡ it = ap (λ r. r.it) both in
         let back : drop (end + 1) bytes ≡ rest = ap (λ r. r.rest) both in
-        let parts = before_zero bytes end refl (ltb-true end (length bytes) f) in
-        (record {
-          no_zero = subst (All (λ byte. byte ≢ 0)) is parts.0;
-          valid = subst IsUtf8 is (IsUtf8-from_is_utf8 (take end bytes) u);
-          is = refl;
-        }, parts.1 ∙ ap₂ (λ a b. zero_ended a ++ b) is (ap (λ k. drop k bytes) (sym (add-one end)) ∙ back))
+        let parts = before_zero bytes end refl (ltb-true end (length bytes) f) in (
+          record {
+            no_zero = subst (All (λ byte. byte ≢ 0)) is parts.0;
+            valid = subst IsUtf8 is (IsUtf8-from_is_utf8 (take end bytes) u);
+            is = refl;
+          },
+          parts.1 ∙ ap₂ (λ a b. zero_ended a ++ b) is (ap (λ k. drop k bytes) (sym (add-one end)) ∙ back),
+        )
 
     at : (t : Bool) → nat_lt end (length bytes) ≡ t → name_to bytes (cond t (Some end) None) ≡ Some (record { it = it; rest = rest }) → IsName it (zero_ended it) × (bytes ≡ zero_ended it ++ rest)
     at false f g = cc

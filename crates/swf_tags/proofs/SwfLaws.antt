@@ -3,14 +3,17 @@ use Rattle.std.proofs.Common.{◌≡◌, ℕ, List, Option, Some, None, Result, 
 use Rattle.swf_tags.specs.Spelling.{swf_bytes}
 use Rattle.swf_tags.specs.File.{AreBytes, IsSwf, written_tags}
 use Rattle.swf_tags.specs.Reading.{read_swf, swf_fault, fault_of}
-use Rattle.swf_tags.specs.SwfLaws.{SwfIsRead, SwfOrFault, SwfIsWritten, SwfIsReadBack, IsSome}
+use Rattle.swf_tags.specs.SwfLaws.{SwfIsRead, ReadIsSwf, SwfOrFault, SwfIsWritten, SwfIsReadBack, IsSome}
 use Rattle.swf_tags.specs.declared.types.Fault.{Fault}
 use Rattle.swf_tags.specs.declared.types.Swf.{Swf}
 use Rattle.swf_tags.proofs.WholeLaws.{swf-read, swf-gives}
 use Rattle.swf_tags.proofs.Written.{written-is_swf}
 
 pub swf_is_read : SwfIsRead
-swf_is_read bytes swf are = (swf-read bytes swf.version swf.tags swf.abc swf.main, swf-gives bytes swf are)
+swf_is_read bytes swf = swf-read bytes swf.version swf.tags swf.abc swf.main
+
+pub read_is_swf : ReadIsSwf
+read_is_swf = swf-gives
 
 pub swf_or_fault : SwfOrFault
 swf_or_fault bytes are = by (read_swf bytes) refl

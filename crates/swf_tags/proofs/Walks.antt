@@ -71,3 +71,37 @@ leads_on answer version place tags s t rest part w e other more shorter = by w.m
           ∙ ap (go_on (on k)) more)
           ∙ same;
     }
+
+-- an End gives the whole answer
+pub leads_to_end : (answer : Result Swf Fault) (version place : ℕ) (tags : List Tag) (s : Seen) (rest : List ℕ) (part : Front Part) → Leads answer version place tags s rest
+    → next_part place rest ≡ Ok part → part.it.code ≡ end_tag → ended version (tags ++ tag_at place part.it ∷ []) place s.abc s.main ≡ answer
+leads_to_end answer version place tags s rest part w e last = by w.most w.enough w.same
+  where
+    closing : Result Swf Fault
+    closing = ended version (tags ++ tag_at place part.it ∷ []) place s.abc s.main
+
+    on : ℕ → Seen → Result Swf Fault
+    on k u = read_tags k version (place + part_size part.it) (tags ++ tag_at place part.it ∷ []) u part.rest
+
+    by : (most : ℕ) → length rest ≤ most → read_tags most version place tags s rest ≡ answer → closing ≡ answer
+    by zero enough same = let some = one-more place rest part e in absurd (omega arith)
+    by (suc k) enough same =
+        sym (ap (after_part (λ at more t r. read_tags k version at more t r) version place tags s) e
+        ∙ ap (λ b. if b then closing else go_on (on k) (with_body place s part.it.code part.it.body)) (eq-eqb part.it.code end_tag last))
+        ∙ same
+
+-- what a tag can't give is the fault of the whole
+pub leads_to_fault : (answer : Result Swf Fault) (version place : ℕ) (tags : List Tag) (s : Seen) (rest : List ℕ) (part : Front Part) (fault : Fault) → Leads answer version place tags s rest
+    → next_part place rest ≡ Ok part → part.it.code ≢ end_tag → with_body place s part.it.code part.it.body ≡ Err fault → answer ≡ Err fault
+leads_to_fault answer version place tags s rest part fault w e other bad = by w.most w.enough w.same
+  where
+    on : ℕ → Seen → Result Swf Fault
+    on k u = read_tags k version (place + part_size part.it) (tags ++ tag_at place part.it ∷ []) u part.rest
+
+    by : (most : ℕ) → length rest ≤ most → read_tags most version place tags s rest ≡ answer → answer ≡ Err fault
+    by zero enough same = let some = one-more place rest part e in absurd (omega arith)
+    by (suc k) enough same =
+        sym same
+        ∙ ap (after_part (λ at more t r. read_tags k version at more t r) version place tags s) e
+        ∙ ap (λ b. if b then ended version (tags ++ tag_at place part.it ∷ []) place s.abc s.main else go_on (on k) (with_body place s part.it.code part.it.body)) (ne_eqb part.it.code end_tag other)
+        ∙ ap (go_on (on k)) bad

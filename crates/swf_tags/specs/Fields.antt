@@ -1,5 +1,5 @@
 -- What stands at the start of bytes, and what follows it.
-use Rattle.std.specs.Prelude.{◌≡◌, ℕ, ◌+◌, List, length, take, drop, if◌then◌else◌, ◌==◌, nat_le, Option, Some, None}
+use Rattle.std.specs.Prelude.{◌≡◌, ℕ, ◌+◌, List, length, take, drop, if◌then◌else◌, ◌==◌, nat_le, Option, Some, None, MatchOption}
 use Rattle.std.specs.List.{position}
 use Rattle.std.specs.Str.{is_utf8}
 use Rattle.byteorder.specs.Endian.{little_number}
@@ -12,6 +12,10 @@ pub record Front (A : Type 0) : Type 0 where
 -- the reading gives this item and this rest
 abbrev pub Gives : {A : Type 0} → Option (Front A) → A → List ℕ → Type 0
 Gives reading it rest = reading ≡ Some (record { it = it; rest = rest })
+
+-- an answer of the code is what the reading gives, seen so, and `None` where it gives nothing
+abbrev pub Finds : {A B : Type 0} → Option A → (B → A) → Option B → Type 0
+Finds reading view result = MatchOption result (reading ≡ None) (λ x. reading ≡ Some (view x))
 
 -- the first n bytes, where there are so many
 unfoldable pub split : ℕ → List ℕ → Option (Front (List ℕ))

@@ -1,6 +1,6 @@
 -- What bytes say as a SWF file, or the first place at which they are none and the reason: the header comes first, then the tags in
 -- order up to End, and the length of the file last.
-use Rattle.std.specs.Prelude.{◌≡◌, ℕ, zero, suc, ◌+◌, ◌/◌, ◌%◌, ◌&&◌, ◌||◌, Bool, true, false, List, [], ◌∷◌, ◌++◌, length, if◌then◌else◌, ◌==◌, Option, Some, None, Result, Ok, Err}
+use Rattle.std.specs.Prelude.{◌≡◌, ℕ, zero, suc, ◌+◌, ◌/◌, ◌%◌, ◌&&◌, ◌||◌, Bool, true, false, List, [], ◌∷◌, ◌++◌, length, if◌then◌else◌, ◌==◌, Option, Some, None, Result, Ok, Err, MatchResult}
 use Rattle.std.specs.Option.{option_copied, is_none}
 use Rattle.swf_tags.specs.Spelling.{end_tag, symbol_class, do_abc}
 use Rattle.swf_tags.specs.File.{Part, Pair, part_size, tag_at, first_of, main_of, rectangle_size}
@@ -176,9 +176,13 @@ abbrev pub of_length : ℕ → ℕ → Result Swf Fault → Result Swf Fault
 of_length size said (Err fault) = Err fault
 of_length size said (Ok swf) = if said == size then Ok swf else fails 4 reason.Length
 
+-- what the tags behind a head say
+abbrev pub tags_behind : Head → Result Swf Fault
+tags_behind head = read_tags (length head.rest) head.version head.start [] nothing head.rest
+
 abbrev pub content : ℕ → Result Head Fault → Result Swf Fault
 content size (Err fault) = Err fault
-content size (Ok head) = of_length size head.length (read_tags (length head.rest) head.version head.start [] nothing head.rest)
+content size (Ok head) = of_length size head.length (tags_behind head)
 
 unfoldable pub read_swf : List ℕ → Result Swf Fault
 read_swf bytes = content (length bytes) (read_head bytes)
@@ -191,7 +195,15 @@ fault_of (Err fault) = Some fault
 abbrev pub swf_fault : List ℕ → Option Fault
 swf_fault bytes = fault_of (read_swf bytes)
 
+-- an answer of the code is what the reading gives, seen so, or its fault
+abbrev pub Tells : {A B : Type 0} → Result A Fault → (B → A) → Result B Fault → Type 0
+Tells reading view result = MatchResult result (λ x. reading ≡ Ok (view x)) (λ fault. reading ≡ Err fault)
+
 -- the reading may be refused so: for want of memory whatever the bytes are
 abbrev pub Refuses : Result Swf Fault → SwfRefusal → Type 0
 Refuses reading (refusal.BadSwf place why) = reading ≡ Err (record { place = place; reason = why })
 Refuses reading refusal.NoMemory = Unit {0}
+
+-- an answer for a whole file is what the reading gives, or its fault, or that memory was refused
+abbrev pub Answers : Result Swf Fault → Result Swf SwfRefusal → Type 0
+Answers reading result = MatchResult result (λ swf. reading ≡ Ok swf) (λ refusal. Refuses reading refusal)

@@ -1,5 +1,5 @@
 -- What holds of the reading and the writing of SWF files.
-use Rattle.std.specs.Prelude.{◌≡◌, ◌≢◌, ◌↔◌, ◌⊎◌, ℕ, ◌+◌, ◌≤◌, List, length, All, Option, Some, None, Ok}
+use Rattle.std.specs.Prelude.{◌≡◌, ◌≢◌, ◌⊎◌, ℕ, ◌+◌, ◌≤◌, List, length, All, Option, Some, None, Ok}
 use Rattle.std.specs.Str.{IsUtf8}
 use Rattle.swf_tags.specs.Spelling.{swf_bytes}
 use Rattle.swf_tags.specs.File.{AreBytes, IsSwf, written_tags}
@@ -7,9 +7,13 @@ use Rattle.swf_tags.specs.Reading.{read_swf, swf_fault}
 use Rattle.swf_tags.specs.declared.types.Fault.{Fault}
 use Rattle.swf_tags.specs.declared.types.Swf.{Swf}
 
--- bytes are a SWF file that says something exactly where that is read
+-- each SWF file is read as what it says
 abbrev pub SwfIsRead : Type 0
-SwfIsRead = (bytes : List ℕ) (swf : Swf) → AreBytes bytes → IsSwf swf.version swf.tags swf.abc swf.main bytes ↔ (read_swf bytes ≡ Ok swf)
+SwfIsRead = (bytes : List ℕ) (swf : Swf) → IsSwf swf.version swf.tags swf.abc swf.main bytes → read_swf bytes ≡ Ok swf
+
+-- what bytes are read as, they are a SWF file of
+abbrev pub ReadIsSwf : Type 0
+ReadIsSwf = (bytes : List ℕ) (swf : Swf) → AreBytes bytes → read_swf bytes ≡ Ok swf → IsSwf swf.version swf.tags swf.abc swf.main bytes
 
 -- the bytes are a SWF file
 pub record IsSome (bytes : List ℕ) : Type 0 where

@@ -1,5 +1,5 @@
 -- The reader's structs as what the reading speaks of.
-use Rattle.std.specs.Prelude.{ℕ, List}
+use Rattle.std.specs.Prelude.{ℕ, List, Option}
 use Rattle.std.specs.Option.{option_copied}
 use Rattle.swf_tags.specs.File as swf
 use Rattle.swf_tags.specs.Fields.{Front}
@@ -9,6 +9,7 @@ use Rattle.swf_tags.specs.declared.reading.Head.{Head}
 use Rattle.swf_tags.specs.declared.reading.Header.{Header}
 use Rattle.swf_tags.specs.declared.reading.Pair.{Pair}
 use Rattle.swf_tags.specs.declared.reading.Part.{Part}
+use Rattle.swf_tags.specs.declared.reading.Symbols.{Symbols}
 
 abbrev pub head_view : Head → reading.Head
 head_view head = record { version = head.version; length = head.length; start = head.start; rest = head.rest.now }
@@ -24,3 +25,6 @@ pair_view pair = record { it = record { id = pair.id; name = pair.name.now }; re
 
 abbrev pub seen : Found → reading.Seen
 seen found = record { abc = option_copied found.abc; main = option_copied found.main }
+
+abbrev pub symbols_view : Symbols → Option (List ℕ)
+symbols_view symbols = option_copied symbols.main

@@ -1,11 +1,12 @@
 // What holds of the reading and the writing of all files.
 
-ghost use Rattle.swf_tags.specs.SwfLaws.{SwfIsRead, SwfIsReadBack, SwfIsWritten, SwfOrFault};
+ghost use Rattle.swf_tags.specs.SwfLaws.{ReadIsSwf, SwfIsRead, SwfIsReadBack, SwfIsWritten, SwfOrFault};
 
-/// The laws of reading: bytes are a SWF file that says something exactly where that is read, so
-/// that all bytes either are a SWF file or have a first fault, and not both.
+/// The laws of reading: bytes are a SWF file that says something exactly where they are read as
+/// that, and so all bytes either are a SWF file or have a first fault, and not both.
 pub fn laws_of_reading()
-    ensures read { SwfIsRead }
+    ensures file_is_read { SwfIsRead }
+    ensures read_is_file { ReadIsSwf }
     ensures one_of_both { SwfOrFault }
 {}
 

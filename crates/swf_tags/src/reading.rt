@@ -1,14 +1,17 @@
 // The reading of a SWF file.
 
-ghost use Rattle.std.specs.Prelude.{◌≡◌, ◌+◌, ◌<◌, ◌^◌, length, MatchOption, MatchResult, IfOk, IfSome, Some, None, Ok, Err, [], true, false};
-ghost use Rattle.swf_tags.specs.Fields.{Gives};
-ghost use Rattle.swf_tags.specs.Reading.{Refuses, behind_signature, ended, next_header, next_pair, next_part, nothing, read_head, read_program, read_swf, read_symbols, read_tags, with_body, with_program, with_symbols};
+ghost use Rattle.std.specs.Prelude.{◌≡◌, ◌+◌, ◌<◌, ◌^◌, length, MatchOption, IfOk, IfSome, Some, None, true, false};
+ghost use Rattle.swf_tags.specs.Fields.{Finds};
+ghost use Rattle.swf_tags.specs.Reading.{Answers, Tells, behind_signature, ended, next_header, next_pair, next_part, read_head, read_program, read_swf, read_symbols, tags_behind, with_body, with_program, with_symbols};
 ghost use Rattle.std.specs.Option.{option_copied};
 ghost use Rattle.swf_tags.specs.File.{header_size, main_of, part_size, rectangle_size, tag_at};
-ghost use Rattle.swf_tags.specs.Views.{header_view, head_view, pair_view, part_view, seen};
+ghost use Rattle.swf_tags.specs.Views.{header_view, head_view, pair_view, part_view, seen, symbols_view};
 
 use crate::fields::{name, number_of_four, number_of_two};
-use crate::format::{CODE_UNIT, DO_ABC, END, FIXED_SIZE, FRAMES_SIZE, LENGTH_PLACE, LONG_FORM, SIGNATURE_SIZE, SYMBOL_CLASS};
+use crate::format::{
+    CODE_UNIT, DO_ABC, END, FIXED_SIZE, FRAMES_SIZE, LENGTH_PLACE, LONG_FORM, SIGNATURE_SIZE,
+    SYMBOL_CLASS,
+};
 use crate::types::{Fault, Swf, SwfReason, SwfRefusal, Tag, Tags};
 use flex_base::{Bytes, NoMemory, Text};
 use std::alloc::Global;
@@ -20,7 +23,7 @@ use std::alloc::Global;
 /// of a long header is read without a sign, which is this project's own.
 #[tactic(auto, unfolding(crate::specs::Reading::read_swf))]
 pub fn read_swf(alloc: Global, bytes: &[u8]) -> Result<Swf, SwfRefusal>
-    ensures { MatchResult result (λ swf. read_swf bytes.now ≡ Ok swf) (λ refusal. Refuses (read_swf bytes.now) refusal) }
+    ensures { Answers (read_swf bytes.now) result }
 {
     let head = read_head(bytes)?;
     let swf = read_tags(alloc, &head)?;
@@ -45,7 +48,7 @@ struct Head<'a> {
 // The signature, and what stands behind it before the tags.
 #[tactic(auto, unfolding(crate::specs::Reading::read_head))]
 fn read_head(bytes: &[u8]) -> Result<Head<'_>, Fault>
-    ensures value { MatchResult result (λ head. read_head bytes.now ≡ Ok (head_view head)) (λ fault. read_head bytes.now ≡ Err fault) }
+    ensures value { Tells (read_head bytes.now) head_view result }
     ensures start { IfOk result (λ head. head.start + length head.rest.now ≡ length bytes.now) }
 {
     match bytes {
@@ -67,7 +70,7 @@ fn read_head(bytes: &[u8]) -> Result<Head<'_>, Fault>
 // The version, the length of the file, the rectangle, the frame rate and the number of frames.
 #[tactic(auto, unfolding(crate::specs::Reading::behind_signature, crate::specs::Fields::split))]
 fn behind_signature(bytes: &[u8]) -> Option<Head<'_>>
-    ensures value { MatchOption result (behind_signature bytes.now ≡ None) (λ head. behind_signature bytes.now ≡ Some (head_view head)) }
+    ensures value { Finds (behind_signature bytes.now) head_view result }
     ensures start { IfSome result (λ head. head.start + length head.rest.now ≡ 3 + length bytes.now) }
 {
     let (version, rest) = bytes.split_first()?;
@@ -94,7 +97,7 @@ fn rectangle_size(first: u8) -> usize
 // What the tags up to End say.
 fn read_tags(alloc: Global, head: &Head<'_>) -> Result<Swf, SwfRefusal>
     requires { head.now.start + length head.now.rest.now < 2 ^ 64 }
-    ensures { MatchResult result (λ swf. read_tags (length head.now.rest.now) head.now.version head.now.start [] nothing head.now.rest.now ≡ Ok swf) (λ refusal. Refuses (read_tags (length head.now.rest.now) head.now.version head.now.start [] nothing head.now.rest.now) refusal) }
+    ensures { Answers (tags_behind (head_view head.now)) result }
 {
     let mut tags = Tags::new(alloc);
     let mut found = Found {
@@ -142,7 +145,7 @@ impl<'a> Part<'a> {
 // The tag at this place, with which the bytes begin.
 #[tactic(auto, unfolding(crate::specs::Reading::next_part, crate::specs::Fields::split))]
 fn next_part(place: usize, bytes: &[u8]) -> Result<Part<'_>, Fault>
-    ensures value { MatchResult result (λ part. next_part place bytes.now ≡ Ok (part_view part)) (λ fault. next_part place bytes.now ≡ Err fault) }
+    ensures value { Tells (next_part place bytes.now) part_view result }
     ensures body { IfOk result (λ part. length part.body.now < 2 ^ 32) }
     ensures size { IfOk result (λ part. part_size (part_view part).it + length part.rest.now ≡ length bytes.now) }
 {
@@ -182,7 +185,7 @@ struct Header<'a> {
 
 #[tactic(auto, unfolding(crate::specs::Reading::next_header))]
 fn next_header(bytes: &[u8]) -> Option<Header<'_>>
-    ensures value { MatchOption result (next_header bytes.now ≡ None) (λ h. next_header bytes.now ≡ Some (header_view h)) }
+    ensures value { Finds (next_header bytes.now) header_view result }
     ensures size { IfSome result (λ h. header_size h.long + length h.rest.now ≡ length bytes.now) }
 {
     let (field, rest) = number_of_two(bytes)?;
@@ -217,7 +220,7 @@ impl<'a> Found<'a> {
     // After one more tag, which begins at this place.
     #[tactic(auto, unfolding(crate::specs::Reading::with_body))]
     fn with_body(self, place: usize, code: u16, body: &'a [u8]) -> Result<Found<'a>, Fault>
-        ensures { MatchResult result (λ found. with_body place (seen self.entry) code body.now ≡ Ok (seen found)) (λ fault. with_body place (seen self.entry) code body.now ≡ Err fault) }
+        ensures { Tells (with_body place (seen self.entry) code body.now) seen result }
     {
         match code {
             DO_ABC => self.with_program(place, body),
@@ -227,7 +230,7 @@ impl<'a> Found<'a> {
     }
 
     fn with_program(self, place: usize, body: &'a [u8]) -> Result<Found<'a>, Fault>
-        ensures { MatchResult result (λ found. with_program place (seen self.entry) (read_program body.now) ≡ Ok (seen found)) (λ fault. with_program place (seen self.entry) (read_program body.now) ≡ Err fault) }
+        ensures { Tells (with_program place (seen self.entry) (read_program body.now)) seen result }
     {
         let Some(abc) = read_program(body) else {
             return Err(Fault {
@@ -248,7 +251,7 @@ impl<'a> Found<'a> {
     }
 
     fn with_symbols(self, place: usize, body: &'a [u8]) -> Result<Found<'a>, Fault>
-        ensures { MatchResult result (λ found. with_symbols place (seen self.entry) (read_symbols body.now) ≡ Ok (seen found)) (λ fault. with_symbols place (seen self.entry) (read_symbols body.now) ≡ Err fault) }
+        ensures { Tells (with_symbols place (seen self.entry) (read_symbols body.now)) seen result }
     {
         let Some(symbols) = read_symbols(body) else {
             return Err(Fault {
@@ -281,7 +284,7 @@ struct Symbols<'a> {
 
 #[tactic(auto, unfolding(crate::specs::Reading::read_symbols))]
 fn read_symbols(body: &[u8]) -> Option<Symbols<'_>>
-    ensures { MatchOption result (read_symbols body.now ≡ None) (λ s. read_symbols body.now ≡ Some (option_copied s.main)) }
+    ensures { Finds (read_symbols body.now) symbols_view result }
 {
     let (count, mut rest) = number_of_two(body)?;
     let mut main = None;
@@ -316,7 +319,7 @@ impl<'a> Pair<'a> {
 
 #[tactic(auto, unfolding(crate::specs::Reading::next_pair))]
 fn next_pair(bytes: &[u8]) -> Option<Pair<'_>>
-    ensures { MatchOption result (next_pair bytes.now ≡ None) (λ p. next_pair bytes.now ≡ Some (pair_view p)) }
+    ensures { Finds (next_pair bytes.now) pair_view result }
 {
     let (id, rest) = number_of_two(bytes)?;
     let (name, rest) = name(rest)?;
@@ -331,7 +334,7 @@ fn finish(
     place: usize,
     found: Found<'_>,
 ) -> Result<Swf, SwfRefusal>
-    ensures { MatchResult result (λ swf. ended version tags place (seen found.entry).abc (seen found.entry).main ≡ Ok swf) (λ refusal. Refuses (ended version tags place (seen found.entry).abc (seen found.entry).main) refusal) }
+    ensures { Answers (ended version tags place (seen found.entry).abc (seen found.entry).main) result }
 {
     let Some(program) = found.abc else {
         return Err(SwfRefusal::BadSwf(place, SwfReason::NoAbc));

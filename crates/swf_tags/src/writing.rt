@@ -5,7 +5,10 @@ ghost use Rattle.byteorder.specs.Endian.{little_bytes};
 ghost use Rattle.swf_tags.specs.File.{IsSwf, written_tags};
 ghost use Rattle.swf_tags.specs.Spelling.{swf_bytes, content, tag, header, long_header, zero_ended, abc_body, symbol_body, do_abc_tag, frame_header, tags};
 
-use crate::format::{CODE_UNIT, DO_ABC, END, FILE_ATTRIBUTES, FIXED_SIZE, LONG_FORM, LONG_HEADER_SIZE, SET_BACKGROUND_COLOR, SHORT_HEADER_SIZE, SHOW_FRAME, SYMBOL_CLASS};
+use crate::format::{
+    CODE_UNIT, DO_ABC, END, FILE_ATTRIBUTES, FIXED_SIZE, LONG_FORM, LONG_HEADER_SIZE,
+    SET_BACKGROUND_COLOR, SHORT_HEADER_SIZE, SHOW_FRAME, SYMBOL_CLASS,
+};
 use byteorder::{ByteOrder, LittleEndian};
 use flex_base::{Bytes, NoMemory, Text};
 use std::alloc::Global;
