@@ -1,8 +1,16 @@
-//! The SWF format: the writing of an uncompressed file with one program in it.
+//! The SWF format: uncompressed files with one program in them, read and written.
 #![tactic(auto)]
 
+mod fields;
+mod format;
+mod laws;
+mod reading;
 #[cfg(test)]
 mod tests;
+mod types;
 mod writing;
 
+pub use laws::{laws_of_reading, laws_of_writing};
+pub use reading::read_swf;
+pub use types::{Swf, SwfReason, SwfRefusal, Tag, Tags};
 pub use writing::write_swf;

@@ -1,25 +1,17 @@
 // The writing of a SWF file.
 
-ghost use Rattle.std.specs.Prelude.{◌≡◌, ◌+◌, ◌≤◌, ◌<◌, ◌^◌, ◌++◌, ◌∷◌, [], length, All, ◌≢◌, IfOk, OnOk};
+ghost use Rattle.std.specs.Prelude.{◌≡◌, ◌+◌, ◌≤◌, ◌<◌, ◌^◌, ◌++◌, ◌∷◌, [], length, All, ◌≢◌, IfOk, OnOk, if◌then◌else◌, nat_lt};
 ghost use Rattle.byteorder.specs.Endian.{little_bytes};
 ghost use Rattle.swf_tags.specs.File.{IsSwf, written_tags};
 ghost use Rattle.swf_tags.specs.Spelling.{swf_bytes, content, tag, header, long_header, zero_ended, abc_body, symbol_body, do_abc_tag, frame_header, tags};
 
+use crate::format::{
+    CODE_UNIT, DO_ABC, END, FILE_ATTRIBUTES, FIXED_SIZE, LONG_FORM, LONG_HEADER_SIZE,
+    SET_BACKGROUND_COLOR, SHORT_HEADER_SIZE, SHOW_FRAME, SYMBOL_CLASS,
+};
 use byteorder::{ByteOrder, LittleEndian};
 use flex_base::{Bytes, NoMemory, Text};
 use std::alloc::Global;
-
-const END: u16 = 0;
-
-const SHOW_FRAME: u16 = 1;
-
-const SET_BACKGROUND_COLOR: u16 = 9;
-
-const FILE_ATTRIBUTES: u16 = 69;
-
-const SYMBOL_CLASS: u16 = 76;
-
-const DO_ABC: u16 = 82;
 
 /// The version of the written files.
 const VERSION: u8 = 10;
@@ -28,6 +20,17 @@ const VERSION: u8 = 10;
 const FRAME_HEADER: [u8; 13] = [
     0x78, 0x00, 0x04, 0xE2, 0x00, 0x00, 0x0E, 0xA6, 0x00, 0x00, 0x18, 0x01, 0x00,
 ];
+
+// ActionScript 3 and nothing else.
+const ATTRIBUTES: [u8; 4] = [0x08, 0x00, 0x00, 0x00];
+
+const WHITE: [u8; 3] = [0xFF, 0xFF, 0xFF];
+
+// The flags of a DoABC and its name `flexc`, with its end.
+const PROGRAM_START_SIZE: usize = 10;
+
+// The number of pairs, the number of the one pair, and the end of its name.
+const UNNAMED_PAIR_SIZE: usize = 5;
 
 /// The uncompressed SWF file whose main class has the dotted name `main`, and whose one program is
 /// `abc`. SWF File Format Specification, version 19: the header, FileAttributes,
@@ -43,8 +46,8 @@ pub fn write_swf(alloc: Global, main: &Text, abc: &[u8]) -> Result<Bytes, NoMemo
     bytes.push(VERSION)?;
     put_u32(&mut bytes, file_length(main.as_str(), abc))?;
     bytes.extend(&FRAME_HEADER)?;
-    put_tag(&mut bytes, FILE_ATTRIBUTES, &[0x08, 0x00, 0x00, 0x00])?;
-    put_tag(&mut bytes, SET_BACKGROUND_COLOR, &[0xFF, 0xFF, 0xFF])?;
+    put_tag(&mut bytes, FILE_ATTRIBUTES, &ATTRIBUTES)?;
+    put_tag(&mut bytes, SET_BACKGROUND_COLOR, &WHITE)?;
     put_do_abc(&mut bytes, abc)?;
     put_symbol_class(&mut bytes, main.as_str())?;
     put_tag(&mut bytes, SHOW_FRAME, &[])?;
@@ -57,18 +60,29 @@ fn file_length(main: &str, abc: &[u8]) -> u32
     requires { length main.now + length abc.now ≤ 2000000000 }
     ensures { result ≡ 8 + length (content main.now abc.now) }
 {
-    let symbol_header = if main.len() + 5 < 63 { 2 } else { 6 };
-    let length = 8
+    let length = FIXED_SIZE
         + FRAME_HEADER.len()
-        + 6
-        + 5
-        + 16
+        + tag_size(ATTRIBUTES.len())
+        + tag_size(WHITE.len())
+        + LONG_HEADER_SIZE
+        + PROGRAM_START_SIZE
         + abc.len()
-        + symbol_header
-        + 5
-        + main.len()
-        + 4;
+        + tag_size(UNNAMED_PAIR_SIZE + main.len())
+        + tag_size(0)
+        + tag_size(0);
     length as u32
+}
+
+// The bytes of a tag whose body has so many.
+fn tag_size(body: usize) -> usize
+    requires { body ≤ 2000000005 }
+    ensures { result ≡ (if nat_lt body 63 then 2 else 6) + body }
+{
+    if body < usize::from(LONG_FORM) {
+        SHORT_HEADER_SIZE + body
+    } else {
+        LONG_HEADER_SIZE + body
+    }
 }
 
 // A tag's header.
@@ -76,8 +90,8 @@ fn put_header(bytes: &mut Bytes, code: u16, length: u32) -> Result<(), NoMemory>
     requires { code < 1024 }
     ensures { OnOk result (bytes.new ≡ bytes.old ++ header code length) }
 {
-    if length < 63 {
-        put_u16(bytes, 64 * code + length as u16)
+    if length < u32::from(LONG_FORM) {
+        put_u16(bytes, CODE_UNIT * code + length as u16)
     } else {
         put_long_header(bytes, code, length)
     }
@@ -88,12 +102,12 @@ fn put_long_header(bytes: &mut Bytes, code: u16, length: u32) -> Result<(), NoMe
     requires { code < 1024 }
     ensures { OnOk result (bytes.new ≡ bytes.old ++ long_header code length) }
 {
-    put_u16(bytes, 64 * code + 63)?;
+    put_u16(bytes, CODE_UNIT * code + LONG_FORM)?;
     put_u32(bytes, length)?;
     Ok(())
 }
 
-// A tag with a short body.
+// A tag: its header, and its body.
 fn put_tag(bytes: &mut Bytes, code: u16, body: &[u8]) -> Result<(), NoMemory>
     requires code { code < 1024 }
     requires body { length body.now < 2 ^ 32 }
@@ -109,7 +123,7 @@ fn put_do_abc(bytes: &mut Bytes, abc: &[u8]) -> Result<(), NoMemory>
     requires { length abc.now ≤ 2000000000 }
     ensures { OnOk result (bytes.new ≡ bytes.old ++ do_abc_tag abc.now) }
 {
-    put_long_header(bytes, DO_ABC, 10 + abc.len() as u32)?;
+    put_long_header(bytes, DO_ABC, (PROGRAM_START_SIZE + abc.len()) as u32)?;
     put_u32(bytes, 0)?;
     bytes.extend(b"flexc\0")?;
     bytes.extend(abc)?;
@@ -121,7 +135,7 @@ fn put_symbol_class(bytes: &mut Bytes, main: &str) -> Result<(), NoMemory>
     requires { length main.now ≤ 2000000000 }
     ensures { OnOk result (bytes.new ≡ bytes.old ++ tag 76 (symbol_body main.now)) }
 {
-    put_header(bytes, SYMBOL_CLASS, 5 + main.len() as u32)?;
+    put_header(bytes, SYMBOL_CLASS, (UNNAMED_PAIR_SIZE + main.len()) as u32)?;
     put_u16(bytes, 1)?;
     put_u16(bytes, 0)?;
     bytes.extend(main.as_bytes())?;
