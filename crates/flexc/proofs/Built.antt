@@ -10,7 +10,7 @@ use Rattle.flex_front.specs.declared.document.Element.{Element}
 use Rattle.flex_front.specs.Source.{IsShort}
 use Rattle.flexc.specs.Emitted.{abc_of, main_text}
 use Rattle.swf_tags.specs.File.{IsSwf, written_tags}
-use Rattle.swf_tags.proofs.Related.{written-is_swf}
+use Rattle.swf_tags.proofs.SwfLaws.{swf_is_written}
 use Rattle.flexc.proofs.WrittenSize.{text-brief}
 use Rattle.flexc.proofs.Written.{length-abc_bytes}
 
@@ -25,7 +25,7 @@ pub built_is_swf : (es : List Element) → length es ≤ 100 → All IsShort es
     → IsSwf 10 (written_tags main_text (abc_bytes (abc_of es))) (abc_bytes (abc_of es)) main_text (swf_bytes main_text (abc_bytes (abc_of es)))
 built_is_swf es few short =
     let size = length-abc_bytes es few short in
-    written-is_swf main_text (abc_bytes (abc_of es)) main_has_no_zero main_is_utf8 (omega (arith, size))
+    swf_is_written main_text (abc_bytes (abc_of es)) main_has_no_zero main_is_utf8 (omega (arith, size))
 
 -- the file is that of the document
 pub built_from : (es : List Element) (abc : Abc) (main code swf : List ℕ) → swf ≡ swf_bytes main code → main ≡ main_text → code ≡ abc_bytes abc → abc ≡ abc_of es → swf ≡ swf_bytes main_text (abc_bytes (abc_of es))

@@ -1,18 +1,23 @@
 -- What a file that is played says is determined by its bytes.
-use Rattle.std.proofs.Common.{◌≡◌, ℕ, List, Some, sym, ap, ◌∙◌, subst}
+use Rattle.std.proofs.Common.{◌≡◌, ℕ, List, Some, Result, Ok, sym, ap, ◌∙◌, subst}
 use Rattle.flex_base.specs.declared.event.UserEvent.{UserEvent}
 use Rattle.script_player.specs.AbcReader.{read_abc}
 use Rattle.script_player.specs.Playable.{IsPlayable}
 use Rattle.script_player.specs.Playing.{boot, ComesTo, HasTrace}
-use Rattle.script_player.specs.SwfReader.{read_swf}
+use Rattle.swf_tags.specs.Reading.{read_swf}
+use Rattle.swf_tags.specs.declared.types.Swf.{Swf}
+use Rattle.swf_tags.proofs.SwfLaws.{swf_is_read}
 use Rattle.flex_base.specs.Story.{Story}
 use Rattle.script_player.proofs.AbcRead.{abc_is_read}
 use Rattle.script_player.proofs.Ends.{one_story}
-use Rattle.script_player.proofs.SwfRead.{swf_is_read}
 
--- both parts of a file that is played are read
-pub file_is_read : (swf : List ℕ) (f : IsPlayable swf) → read_swf swf ≡ Some (record { main = f.main; abc = f.code })
-file_is_read swf f = swf_is_read f.version f.tags f.code f.main swf f.file
+-- what a file that is played says
+abbrev pub saying : (swf : List ℕ) → IsPlayable swf → Swf
+saying swf f = record { version = f.version; tags = f.tags; abc = f.code; main = f.main }
+
+-- a file that is played is read, and so is its program
+pub file_is_read : (swf : List ℕ) (f : IsPlayable swf) → read_swf swf ≡ Ok (saying swf f)
+file_is_read swf f = swf_is_read swf (saying swf f) f.file
 
 pub program_is_read : (swf : List ℕ) (f : IsPlayable swf) → read_abc f.code ≡ Some f.abc
 program_is_read swf f = abc_is_read f.abc f.code f.program f.forms
@@ -20,12 +25,19 @@ program_is_read swf f = abc_is_read f.abc f.code f.program f.forms
 same_some : {A : Type 0} (a b : A) → Some a ≡ Some b → a ≡ b
 same_some a b e = cc
 
+pub same_ok : {A E : Type 0} (r : Result A E) (a b : A) → r ≡ Ok a → r ≡ Ok b → a ≡ b
+same_ok r a b d e = cc
+
+-- two readings of a file say the same
+same_saying : (swf : List ℕ) (f g : IsPlayable swf) → saying swf f ≡ saying swf g
+same_saying swf f g = same_ok (read_swf swf) _ _ (file_is_read swf f) (file_is_read swf g)
+
 pub same_main : (swf : List ℕ) (f g : IsPlayable swf) → f.main ≡ g.main
-same_main swf f g = ap (λ p. p.main) (same_some _ _ (sym (file_is_read swf f) ∙ file_is_read swf g))
+same_main swf f g = ap (λ (s : Swf). s.main) (same_saying swf f g)
 
 pub same_abc : (swf : List ℕ) (f g : IsPlayable swf) → f.abc ≡ g.abc
 same_abc swf f g =
-    let code : f.code ≡ g.code = ap (λ p. p.abc) (same_some _ _ (sym (file_is_read swf f) ∙ file_is_read swf g)) in
+    let code : f.code ≡ g.code = ap (λ (s : Swf). s.abc) (same_saying swf f g) in
     same_some _ _ (sym (program_is_read swf f) ∙ ap read_abc code ∙ program_is_read swf g)
 
 -- what one reading of the file comes to, any other comes to

@@ -8,7 +8,4 @@ pub mod Lists
 pub mod Played
 pub mod Ran
 pub mod Shown
-pub mod SwfRead
-pub mod SwfReadBack
-pub mod Tags
 pub mod Texts

@@ -13,11 +13,13 @@ use Rattle.script_player.specs.AbcReader.{read_abc}
 use Rattle.script_player.specs.Playable.{IsPlayable}
 use Rattle.script_player.specs.Playing.{boot, ComesTo, HasTrace}
 use Rattle.script_player.specs.Printed.{HasShown, HasPrinted, PrintsText, Plays}
-use Rattle.script_player.specs.SwfReader.{read_swf}
+use Rattle.swf_tags.specs.Reading.{read_swf}
+use Rattle.swf_tags.specs.declared.types.Fault.{Fault}
+use Rattle.swf_tags.specs.declared.types.Swf.{Swf}
 use Rattle.flex_base.specs.Story.{Story, lines, text, with_end}
 use Rattle.flex_edge.specs.Whole.{HasTaken, Prints}
 use Rattle.script_player.proofs.Ends.{one_story}
-use Rattle.script_player.proofs.Files.{file_is_read, program_is_read, comes_alike}
+use Rattle.script_player.proofs.Files.{same_ok, file_is_read, program_is_read, comes_alike}
 
 -- memory was refused before anything was printed
 pub nothing_printed : (P : Story → Type 0) (old : SinkState) → PrintsText P old (Err refused.NoMemory) old
@@ -83,24 +85,24 @@ some_is : {A : Type 0} (a b : A) → Some a ≡ Some b → a ≡ b
 some_is a b e = cc
 
 module _ (swf : List ℕ) (f : IsPlayable swf) where
-  pub file_is_there : read_swf swf ≡ None → ⊥
-  file_is_there none = none_is _ (sym (file_is_read swf f) ∙ none)
+  pub file_is_there : (fault : Fault) → read_swf swf ≡ Err fault → ⊥
+  file_is_there fault bad = let read = file_is_read swf f in cc
 
-  module _ (main code : List ℕ) (file : read_swf swf ≡ Some (record { main = main; abc = code })) where
-    code_is : f.code ≡ code
-    code_is = ap (λ p. p.abc) (some_is _ _ (sym (file_is_read swf f) ∙ file))
+  module _ (file : Swf) (is : read_swf swf ≡ Ok file) where
+    code_is : f.code ≡ file.abc
+    code_is = ap (λ (s : Swf). s.abc) (same_ok (read_swf swf) _ _ (file_is_read swf f) is)
 
-    main_is : f.main ≡ main
-    main_is = ap (λ p. p.main) (some_is _ _ (sym (file_is_read swf f) ∙ file))
+    main_is : f.main ≡ file.main
+    main_is = ap (λ (s : Swf). s.main) (same_ok (read_swf swf) _ _ (file_is_read swf f) is)
 
-    pub program_is_there : read_abc code ≡ None → ⊥
+    pub program_is_there : read_abc file.abc ≡ None → ⊥
     program_is_there none = none_is _ (sym (program_is_read swf f) ∙ ap read_abc code_is ∙ none)
 
     -- what was read of the file was played
-    pub file_played : (abc : Abc) (events : List UserEvent) (turns : ℕ) (result : Result Outcome Refused) (old new : SinkState) → read_abc code ≡ Some abc
-        → PrintsText (ComesTo abc main events (boot abc turns)) old result new → Plays swf events turns old result new
+    pub file_played : (abc : Abc) (events : List UserEvent) (turns : ℕ) (result : Result Outcome Refused) (old new : SinkState) → read_abc file.abc ≡ Some abc
+        → PrintsText (ComesTo abc file.main events (boot abc turns)) old result new → Plays swf events turns old result new
     file_played abc events turns result old new program =
         let abc_is : f.abc ≡ abc = some_is _ _ (sym (program_is_read swf f) ∙ ap read_abc code_is ∙ program) in
-        printed_alike (ComesTo abc main events (boot abc turns)) (HasTrace swf events turns) old new result
+        printed_alike (ComesTo abc file.main events (boot abc turns)) (HasTrace swf events turns) old new result
         (λ story c. record { file = f; comes = subst (λ a. ComesTo a f.main events (boot a turns) story) (sym abc_is) (subst (λ m. ComesTo abc m events (boot abc turns) story) (sym main_is) c) })
-        (λ story t. subst (λ a. ComesTo a main events (boot a turns) story) abc_is (subst (λ m. ComesTo f.abc m events (boot f.abc turns) story) main_is (comes_alike swf events turns story t.file f t.comes)))
+        (λ story t. subst (λ a. ComesTo a file.main events (boot a turns) story) abc_is (subst (λ m. ComesTo f.abc m events (boot f.abc turns) story) main_is (comes_alike swf events turns story t.file f t.comes)))

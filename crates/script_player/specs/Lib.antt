@@ -3,5 +3,3 @@ pub mod AbcReader
 pub mod Playable
 pub mod Playing
 pub mod Printed
-pub mod SwfLaws
-pub mod SwfReader

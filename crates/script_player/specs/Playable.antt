@@ -2,7 +2,8 @@
 use Rattle.std.specs.Prelude.{ℕ, List}
 use Rattle.abc_format.specs.Grammar.{IsAbc}
 use Rattle.abc_format.specs.declared.records.Abc.{Abc}
-use Rattle.swf_tags.specs.File.{Tag, IsSwf}
+use Rattle.swf_tags.specs.File.{IsSwf}
+use Rattle.swf_tags.specs.declared.types.Tag.{Tag}
 use Rattle.script_player.specs.AbcLaws.{IsWritten}
 
 -- a SWF file whose program stands for an ABC of the forms that are read

@@ -3,8 +3,6 @@
 
 mod abc_reader;
 mod playing;
-mod swf_reader;
 
 pub use abc_reader::reads_back_abc;
 pub use playing::play;
-pub use swf_reader::{reads_back_swf, reads_swf};

@@ -10,12 +10,12 @@ ghost use Rattle.flex_base.specs.Story.{record_line, with_end};
 ghost use Rattle.flex_edge.specs.Whole.{Prints};
 
 use crate::abc_reader::{ReadFault, read_abc};
-use crate::swf_reader::read_swf;
 use abc_format::Abc;
 use avm2_machine::Machine;
 use flex_base::{Bytes, Outcome, Text, TraceItem, UserEvent, line_of};
 use flex_edge::{Refused, Sink, print};
 use std::alloc::Global;
+use swf_tags::{Swf, SwfRefusal, read_swf};
 
 /// Plays a SWF file with a script and so many turns, and prints the trace: from the load on, and
 /// then through each line of the script once the machine is idle.
@@ -29,11 +29,13 @@ pub fn play<O: Sink>(
     requires { IsPlayable swf.now }
     ensures { Plays swf.now script.now turns (O.state out.old) result (O.state out.new) }
 {
-    let Some(parts) = read_swf(swf) else {
-        unreachable!();
+    let file = match read_swf(alloc, swf) {
+        Ok(file) => file,
+        Err(SwfRefusal::BadSwf(_, _)) => unreachable!(),
+        Err(SwfRefusal::NoMemory) => return Err(WriteRefusal::NoMemory),
     };
-    match read_abc(alloc, parts.abc) {
-        Ok(abc) => play_program(alloc, &abc, parts.main, script, turns, out),
+    match read_abc(alloc, file.abc.as_slice()) {
+        Ok(abc) => play_program(alloc, &abc, &file.main, script, turns, out),
         Err(ReadFault::Bad) => unreachable!(),
         Err(ReadFault::NoMemory) => Err(Refused::NoMemory),
     }
@@ -43,16 +45,15 @@ pub fn play<O: Sink>(
 fn play_program<O: Sink>(
     alloc: Global,
     abc: &Abc,
-    main: &str,
+    main: &Text,
     script: &[UserEvent],
     turns: u32,
     out: &mut O,
 ) -> Result<Outcome, Refused>
     ensures { PrintsText (ComesTo abc.now main.now script.now (boot abc.now turns)) (O.state out.old) result (O.state out.new) }
 {
-    let main = Text::make(alloc, main)?;
     let mut machine = Machine::load(alloc, abc.classes.len(), turns)?;
-    let outcome = play_script(alloc, abc, &main, script, &mut machine, out)?;
+    let outcome = play_script(alloc, abc, main, script, &mut machine, out)?;
     print_line(alloc, outcome.line().as_bytes(), out)?;
     Ok(outcome)
 }

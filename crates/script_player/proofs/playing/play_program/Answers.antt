@@ -10,7 +10,7 @@ use Rattle.script_player.proofs.playing.play_program.Goals as goal
 
 pub returns-in_err-machine : goal.returns-in_err-machine
 returns-in_err-machine g c =
-    let is : c.from_residual-in_err-machine.result ≡ Err refused.NoMemory = search rules in
+    let is : c.from_residual.result ≡ Err refused.NoMemory = search rules in
     rw is (nothing_printed (ComesTo c.args.abc.now c.args.main.now c.args.script.now (boot c.args.abc.now c.args.turns)) (g.O.Sink.state c.args.out.now))
 
 pub returns-in_err-print_line : goal.returns-in_err-print_line
