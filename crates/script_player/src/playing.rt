@@ -32,7 +32,7 @@ pub fn play<O: Sink>(
     let file = match read_swf(alloc, swf) {
         Ok(file) => file,
         Err(SwfRefusal::BadSwf(_, _)) => unreachable!(),
-        Err(SwfRefusal::NoMemory) => return Err(WriteRefusal::NoMemory),
+        Err(SwfRefusal::NoMemory) => return Err(Refused::NoMemory),
     };
     match read_abc(alloc, file.abc.as_slice()) {
         Ok(abc) => play_program(alloc, &abc, &file.main, script, turns, out),
