@@ -117,7 +117,7 @@ pub behind_gap : (text : List ℕ) (tokens after : List Token) (rest left : List
 behind_gap text tokens after rest left m so_far here gap stay is =
     let next = goes_on text tokens rest m so_far here in
     let same : after ≡ tokens ++ token_before m.kind (length text - length rest) (length text - length rest + m.len) [] = stay ∙ sym (append-nil tokens) ∙ sym (ap (λ k. tokens ++ token_before k (length text - length rest) (length text - length rest + m.len) []) gap) in
-    subst (λ ts. IsSoFar text ts left) (sym same) 
+    subst (λ ts. IsSoFar text ts left) (sym same)
     (subst (IsSoFar text (tokens ++ token_before m.kind (length text - length rest) (length text - length rest + m.len) [])) (sym is) next)
 
 -- a token

@@ -16,8 +16,8 @@ use crate::stage::{Class, Registration, Stage};
 use crate::tables::hears_clicks;
 use abc_format::Abc;
 use flex_base::{
-    Arrival, MachineFault, Names, NoMemory, ObjId, Phase, Sequence, Text, TraceItem, UserEvent, Value,
-    path_text,
+    Arrival, MachineFault, Names, NoMemory, ObjId, Phase, Sequence, Text, TraceItem, UserEvent,
+    Value, path_text,
 };
 use std::alloc::Global;
 

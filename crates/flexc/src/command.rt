@@ -250,12 +250,7 @@ fn print_line<O: Sink>(out: &mut O, status: Status, before: &str, name: &str, af
 }
 
 // Prints three pieces and the end of their line.
-fn print_pieces<O: Sink>(
-    out: &mut O,
-    before: &str,
-    name: &str,
-    after: &str,
-) -> Result<(), Refused>
+fn print_pieces<O: Sink>(out: &mut O, before: &str, name: &str, after: &str) -> Result<(), Refused>
     ensures { Prints (O.state out.old) (before.now ++ (name.now ++ (after.now ++ 10 ∷ []))) result (O.state out.new) }
 {
     print(out, before.as_bytes())?;
