@@ -16,10 +16,10 @@ use Rattle.flex_base.specs.declared.event.UserEvent.{UserEvent}
 use Rattle.avm2_machine.specs.Machine.{begins, idle}
 use Rattle.script_player.specs.Playable.{IsPlayable}
 use Rattle.script_player.specs.Playing.{Config, Play, first, boot, opening, over, over_with, run, played, ComesTo, HasTrace, NeverFaults}
-use Rattle.script_player.proofs.AbcRelated.{written_is_abc}
-use Rattle.script_player.proofs.Ends.{one_end}
-use Rattle.script_player.proofs.Files.{comes_alike, one_trace}
-use Rattle.script_player.proofs.Lifted.{played_then, run_lifts}
+use Rattle.script_player.proofs.AbcSpellingLaws.{written_is_abc}
+use Rattle.script_player.proofs.EndLaws.{one_end}
+use Rattle.script_player.proofs.FileLaws.{comes_alike, one_trace}
+use Rattle.script_player.proofs.RunLaws.{played_then, run_lifts}
 use Rattle.flexc.specs.Emitted.{abc_of, main_text}
 use Rattle.flexc.specs.Meaning.{id_property, construct, does, do_all, play, told, source_trace}
 use Rattle.flexc.specs.PlaysAs.{PlaysAs}

@@ -17,7 +17,7 @@ use crate::emit::{MAIN, emit};
 use crate::script::{ScriptRefusal, read_script};
 use crate::words::{Run, read_words};
 use abc_format::write_abc;
-use flex_base::{Bytes, NoMemory, Outcome, Sequence, Text};
+use flex_base::{Bytes, NoMemory, Outcome, Script, Text};
 use flex_edge::{Files, Observer, ReadRefusal, Refused, Sink, print, read_file, write_file};
 use flex_front::{Document, SourceRefusal, read_source};
 use itoa::Buffer;

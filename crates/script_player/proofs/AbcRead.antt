@@ -23,7 +23,7 @@ use Rattle.abc_format.specs.declared.records.TraitKind.TheVariants as trait_kind
 use Rattle.script_player.specs.AbcReader.{Read, done, and_then, times, counted, table, read_byte, read_piece, read_u30, read_string, namespace_kind_of, read_namespace_kind, read_namespace, read_multiname, read_item, read_metadata, read_method_flags, read_method, empty_table, empty_list, read_int, read_pool, read_two, read_slot, read_parts, read_trait_metadata, read_trait, read_instance_flags, read_instance, read_class, read_script, read_code, read_body, read_u16, read_head, read_classes, read_file, whole, read_abc}
 use Rattle.script_player.specs.AbcLaws.{IsU30, IsList, IsInt, IsText, IsNamespace, IsMultiname, IsItem, IsMetadata, IsMethod, IsTraitKind, IsTrait, IsInstance, IsClass, IsScript, IsBody, IsPool, IsWritten, AbcIsRead, AbcIsReadBack}
 use Rattle.script_player.proofs.AbcNumbers.{u30-front, int-front}
-use Rattle.script_player.proofs.AbcRelated.{written_is_abc}
+use Rattle.script_player.proofs.AbcSpellingLaws.{written_is_abc}
 
 -- what some bytes stand for is read of them, whatever follows
 abbrev Reads : {A : Type 0} → (A → List ℕ → Type 0) → (List ℕ → Option (Read A)) → (A → Type 0) → Type 0

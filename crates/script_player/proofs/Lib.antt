@@ -1,9 +1,9 @@
 pub mod AbcNumbers
 pub mod AbcRead
-pub mod AbcRelated
-pub mod Ends
-pub mod Files
-pub mod Lifted
+pub mod AbcSpellingLaws
+pub mod EndLaws
+pub mod FileLaws
+pub mod RunLaws
 pub mod Lists
 pub mod Played
 pub mod Ran

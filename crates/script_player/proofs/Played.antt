@@ -18,8 +18,8 @@ use Rattle.swf_tags.specs.declared.types.Fault.{Fault}
 use Rattle.swf_tags.specs.declared.types.Swf.{Swf}
 use Rattle.flex_base.specs.Story.{Story, lines, text, with_end}
 use Rattle.flex_edge.specs.Whole.{HasTaken, Prints}
-use Rattle.script_player.proofs.Ends.{one_story}
-use Rattle.script_player.proofs.Files.{same_ok, file_is_read, program_is_read, comes_alike}
+use Rattle.script_player.proofs.EndLaws.{one_story}
+use Rattle.script_player.proofs.FileLaws.{same_ok, file_is_read, program_is_read, comes_alike}
 
 -- memory was refused before anything was printed
 pub nothing_printed : (P : Story → Type 0) (old : SinkState) → PrintsText P old (Err refused.NoMemory) old

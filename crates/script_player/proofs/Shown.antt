@@ -20,8 +20,8 @@ use Rattle.script_player.specs.Playing.{Config, Play, and_item, over, over_with,
 use Rattle.script_player.specs.Printed.{HasRun, HasRunPart, Runs, HasShown, Shows}
 use Rattle.flex_base.specs.Story.{Story, record_line, lines, text, with_end}
 use Rattle.flex_edge.specs.Whole.{HasTaken}
-use Rattle.script_player.proofs.Ends.{stays}
-use Rattle.script_player.proofs.Lifted.{played_then, run_lifts}
+use Rattle.script_player.proofs.EndLaws.{stays}
+use Rattle.script_player.proofs.RunLaws.{played_then, run_lifts}
 use Rattle.script_player.proofs.Ran.{behind, run-behind}
 
 -- items that others follow

@@ -9,7 +9,7 @@ use Rattle.swf_tags.specs.declared.types.Swf.{Swf}
 use Rattle.swf_tags.proofs.SwfLaws.{swf_is_read}
 use Rattle.flex_base.specs.Story.{Story}
 use Rattle.script_player.proofs.AbcRead.{abc_is_read}
-use Rattle.script_player.proofs.Ends.{one_story}
+use Rattle.script_player.proofs.EndLaws.{one_story}
 
 -- what a file that is played says
 abbrev pub saying : (swf : List ℕ) → IsPlayable swf → Swf
