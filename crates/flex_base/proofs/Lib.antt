@@ -1,3 +1,4 @@
 pub mod Digits
+pub mod OptionLaws
 pub mod Paths
 pub mod Units

@@ -3,6 +3,7 @@ use Rattle.std.proofs.Common.{◌≡◌, ◌≢◌, ℕ, zero, suc, ◌<◌, ◌
 use Rattle.std.specs.Prelude.{IsTrue, codes, slice_get, ◌⊎◌}
 use Rattle.std.specs.Option.{IsSomeAnd}
 use Rattle.std.proofs.lemmas.List.{append-nil}
+use Rattle.flex_base.proofs.OptionLaws.{some_is}
 use Rattle.flex_base.specs.declared.outcome.Outcome.{Outcome}
 use Rattle.flex_base.specs.declared.outcome.Outcome.TheVariants.{Ended, Stopped, TurnsSpent}
 use Rattle.flex_base.specs.declared.outcome.Stop.TheVariants.{Cells}
@@ -60,9 +61,6 @@ failed_course words failure.NoMemory old new before mid after answer h r = No_me
 pub played_course : (words : List (List ℕ)) (outcome : Outcome) (old new : FilesState) (before after : SinkState) (answer : Status)
     → HasRun words outcome old new before after → answer ≡ outcome_status outcome → IsEnd outcome → Course words old new before after answer
 played_course words outcome old new before after answer h is comes = Has_played h.script h.out h.main h.document h.events outcome h.are h.written h.plays is comes
-
-some_is : {A : Type 0} (a b : A) → Some a ≡ Some b → a ≡ b
-some_is a b e = cc
 
 -- two results that are equal
 abbrev TheResult : (A B : Type 0) → Result A B → Result A B → Type 0

@@ -5,6 +5,7 @@ use Rattle.std.specs.Str.{bytes_eq}
 use Rattle.std.proofs.lemmas.List.{append-nil}
 use Rattle.abc_format.specs.declared.records.Abc.{Abc}
 use Rattle.abc_format.specs.declared.records.MethodBody.{MethodBody}
+use Rattle.flex_base.proofs.OptionLaws.{some_is}
 use Rattle.flex_base.specs.Value.{same}
 use Rattle.flex_base.specs.declared.record.TraceItem.{TraceItem}
 use Rattle.flex_base.specs.declared.record.TraceItem.TheVariants.{Made, Written}
@@ -56,9 +57,6 @@ shapes_kept name v (p ∷ properties) = by (shapes_kept name v properties) (byte
     by : shapes_of (with_value name v properties) ≡ shapes_of properties → (t : Bool) → shapes_of (if t then record p { value = v } ∷ properties else p ∷ with_value name v properties) ≡ shapes_of (p ∷ properties)
     by others true = refl
     by others false = ap (λ l. (p.name, p.content) ∷ l) others
-
-some_is : {A : Type 0} (a b : A) → Some a ≡ Some b → a ≡ b
-some_is a b e = cc
 
 -- the first shapes, and the others
 first_shape : (p : Property) (ps : List Property) (e : Element) (es : List Element) → shapes_of (p ∷ ps) ≡ id_shapes_of (e ∷ es) → (p.name ≡ id_of e) × (p.content ≡ An_object (element_class e))

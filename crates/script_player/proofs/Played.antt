@@ -2,6 +2,7 @@
 use Rattle.std.proofs.Common.{◌≡◌, ℕ, List, [], ◌++◌, None, Some, Ok, Err, Result, refl, sym, ap, ◌∙◌, subst, append_assoc}
 use Rattle.std.proofs.lemmas.List.{append-nil}
 use Rattle.abc_format.specs.declared.records.Abc.{Abc}
+use Rattle.flex_base.proofs.OptionLaws.{some_is}
 use Rattle.flex_base.specs.Line.{outcome_line}
 use Rattle.flex_base.specs.declared.outcome.Outcome.{Outcome}
 use Rattle.flex_edge.specs.Outside.{Rose, SinkState}
@@ -80,9 +81,6 @@ module _ (abc : Abc) (main : List ℕ) (events : List UserEvent) (from : Machine
 
 none_is : {A : Type 0} (a : A) → Some a ≡ None → ⊥
 none_is a e = cc
-
-some_is : {A : Type 0} (a b : A) → Some a ≡ Some b → a ≡ b
-some_is a b e = cc
 
 module _ (swf : List ℕ) (f : IsPlayable swf) where
   pub file_is_there : (fault : Fault) → read_swf swf ≡ Err fault → ⊥
