@@ -1,5 +1,5 @@
 -- A text has tokens, or a place where none begins, and not both.
-use Rattle.std.proofs.Common.{◌≡◌, ℕ, zero, suc, ◌+◌, ◌-◌, ◌<◌, ◌≤◌, List, [], ◌∷◌, ◌++◌, length, take, drop, Option, Some, None, Bool, true, false, cond, inl, inr, refl, ap, sym, ◌∙◌, subst, arith, length-append, append-nil}
+use Rattle.std.proofs.Common.{◌≡◌, ℕ, ◌+◌, ◌-◌, ◌≤◌, List, [], ◌∷◌, ◌++◌, length, drop, Some, None, Bool, true, false, cond, inl, inr, refl, ap, sym, ◌∙◌, subst, arith, append-nil}
 use Rattle.std.specs.Prelude.{◌⊎◌, IsUtf8, encode_utf8, nat_eq}
 use Rattle.std.specs.List.{starts_with}
 use Rattle.std.proofs.lemmas.Str.{IsUtf8-past_char}
@@ -117,7 +117,7 @@ pub behind_gap : (text : List ℕ) (tokens after : List Token) (rest left : List
 behind_gap text tokens after rest left m so_far here gap stay is =
     let next = goes_on text tokens rest m so_far here in
     let same : after ≡ tokens ++ token_before m.kind (length text - length rest) (length text - length rest + m.len) [] = stay ∙ sym (append-nil tokens) ∙ sym (ap (λ k. tokens ++ token_before k (length text - length rest) (length text - length rest + m.len) []) gap) in
-    subst (λ ts. IsSoFar text ts left) (sym same) 
+    subst (λ ts. IsSoFar text ts left) (sym same)
     (subst (IsSoFar text (tokens ++ token_before m.kind (length text - length rest) (length text - length rest + m.len) [])) (sym is) next)
 
 -- a token
