@@ -1,11 +1,11 @@
 -- What stands behind a front of a text, and where a text has its first `*/`.
-use Rattle.std.proofs.Common.{◌≡◌, ◌≢◌, ℕ, zero, suc, ◌+◌, ◌<◌, ◌≤◌, List, [], ◌∷◌, ◌++◌, length, drop, Option, Some, None, Bool, true, false, cond, refl, ap, sym, ◌∙◌, subst, arith, length-append}
+use Rattle.std.proofs.Common.{◌≡◌, ◌≢◌, ℕ, zero, suc, ◌<◌, ◌≤◌, List, [], ◌∷◌, ◌++◌, length, drop, Option, Some, None, Bool, true, false, cond, refl, ap, sym, ◌∙◌, arith}
 use Rattle.std.specs.Prelude.{codes, MatchOption, ◌==◌}
 use Rattle.std.specs.Option.{option_map}
 use Rattle.std.specs.Borrow.{Bor}
-use Rattle.std.specs.Str.Pattern.{FindsText, FindsTextPrefix, StripsPrefix, HasTextAt, LacksTextAt, MatchBeginsAt}
+use Rattle.std.specs.Str.Pattern.{FindsText, FindsTextPrefix, StripsPrefix, LacksTextAt, MatchBeginsAt}
 use Rattle.std.proofs.lemmas.Bool.Decides.{nat_tests}
-use Rattle.as3_lexer.specs.Scanning.{behind, closing_place, closing_place_or}
+use Rattle.as3_lexer.specs.Scanning.{behind, closing_place}
 
 pub same_byte : (a b : ℕ) → (a == b) ≡ true → a ≡ b
 same_byte a b same = grind (arith, nat_tests)

@@ -1,16 +1,16 @@
 -- The white space or the comment that begins a text.
-use Rattle.std.proofs.Common.{◌≡◌, ℕ, zero, suc, ◌+◌, ◌-◌, ◌<◌, ◌≤◌, List, [], ◌∷◌, ◌++◌, length, take, drop, get_or, Option, Some, None, Bool, true, false, cond, inl, inr, refl, ap, sym, ◌∙◌, subst, arith, length-append, append_assoc}
-use Rattle.std.specs.Prelude.{◌⊎◌, ◌≢◌, ◌&&◌, ◌==◌, IsUtf8, codes, nat_lt}
-use Rattle.std.specs.List.{list_all, prefix_len}
+use Rattle.std.proofs.Common.{◌≡◌, ℕ, suc, ◌+◌, ◌<◌, ◌≤◌, List, [], ◌∷◌, ◌++◌, length, take, drop, Option, Some, None, Bool, true, false, cond, inl, inr, refl, ap, sym, ◌∙◌, subst, arith, length-append, append_assoc}
+use Rattle.std.specs.Prelude.{◌⊎◌, IsUtf8, codes, nat_lt}
+use Rattle.std.specs.List.{prefix_len}
 use Rattle.std.specs.Option.{option_map}
 use Rattle.std.proofs.lemmas.Bool.Decides.{nat_tests}
 use Rattle.std.proofs.lemmas.List.{take-append-drop, length-take-le}
 use Rattle.std.proofs.lemmas.List.Sums.{prefix_len-le-length, prefix_len_stops}
 use Rattle.std.proofs.lemmas.Str.{IsUtf8-drop, IsCharBoundary-before_ascii, IsCharBoundary-end}
 use Rattle.as3_lexer.specs.Forms.{AreSome, IsGap, IsLineComment, IsBlockComment, is_blank, is_in_line}
-use Rattle.as3_lexer.specs.Scanning.{behind, closing_place, closing_place_or, comment_len, gap_len, line_comment_len, block_comment_len}
+use Rattle.as3_lexer.specs.Scanning.{behind, closing_place, closing_place_or, comment_len, gap_len, line_comment_len}
 use Rattle.as3_lexer.proofs.Cuts.{Cut, IfCut, AtLeast, longer_front, run_at_least, run_passes, run_cut, behind_ascii}
-use Rattle.as3_lexer.proofs.Fronts.{behind_front, behind_gives}
+use Rattle.as3_lexer.proofs.Fronts.{behind_gives}
 
 blank_small : (byte : ℕ) → is_blank byte ≡ true → byte < 128
 blank_small byte is = grind (arith, nat_tests)

@@ -1,15 +1,12 @@
 -- The longest match at the front of a text: what is found is one, and each match is found or a longer one.
-use Rattle.std.proofs.Common.{◌≡◌, ℕ, zero, suc, ◌+◌, ◌-◌, ◌<◌, ◌≤◌, List, [], ◌∷◌, ◌++◌, length, take, drop, get_or, Option, Some, None, Bool, true, false, cond, inl, inr, refl, ap, sym, ◌∙◌, subst, arith, length-append, append_assoc}
+use Rattle.std.proofs.Common.{◌≡◌, ℕ, ◌+◌, ◌<◌, ◌≤◌, List, [], ◌∷◌, ◌++◌, length, take, Option, Some, None, Bool, true, false, inl, inr, refl, ap, sym, ◌∙◌, subst, arith, append_assoc}
 use Rattle.std.specs.Prelude.{◌⊎◌, ◌≢◌, ◌&&◌, ◌||◌, ◌==◌, not, IsUtf8, encode_utf8, encode_utf8_all, codes, nat_lt}
-use Rattle.std.specs.Bool.{then_some}
 use Rattle.std.specs.Option.{option_map}
 use Rattle.std.specs.List.{list_all, prefix_len}
-use Rattle.std.specs.Str.{chars}
-use Rattle.std.specs.Char.{is_ascii_digit, is_ascii_alphabetic, is_ascii_hexdigit}
+use Rattle.std.specs.Char.{is_ascii_digit, is_ascii_alphabetic}
 use Rattle.std.proofs.lemmas.Bool.Decides.{nat_tests}
 use Rattle.std.proofs.lemmas.Str.{chars_past_char, encode_ascii, char_from_byte}
-use Rattle.std.proofs.Math.Seq.{take-append_seam, drop-append_seam}
-use Rattle.unicode_ident.specs.Ident.{is_xid_start}
+use Rattle.std.proofs.Math.Seq.{take-append_seam}
 use Rattle.unicode_ident.proofs.IdentLemmas.{is_xid_start-ascii}
 use Rattle.as3_lexer.specs.declared.keyword.Keyword.{Keyword}
 use Rattle.as3_lexer.specs.declared.mark.Mark.{Mark}
@@ -17,17 +14,16 @@ use Rattle.as3_lexer.specs.declared.mark.Mark.TheVariants as mark
 use Rattle.as3_lexer.specs.declared.token.TokenKind.{TokenKind}
 use Rattle.as3_lexer.specs.declared.token.TokenKind.TheVariants as kind
 use Rattle.as3_lexer.specs.declared.scanning.Match.{Match}
-use Rattle.as3_lexer.specs.Spelling.{keyword_of, keyword_spelling, mark_of, mark_spelling}
-use Rattle.as3_lexer.specs.Forms.{AreSome, IsWord, IsNumber, IsText, IsGap, IsToken, is_blank, is_in_line, starts_word}
-use Rattle.as3_lexer.specs.Tokens.{IsPiece, IsMatch, IsLongest, NothingBegins}
-use Rattle.as3_lexer.specs.Scanning.{behind, closing_place, block_comment_len, comment_len, gap_len, line_comment_len, word_len, word_len_of, number_len, text_len, is_quote, word_kind, found, unless_comment, mark_match, or_mark, or_text, or_number, or_word, match_of}
-use Rattle.as3_lexer.proofs.Cuts.{Cut, IfCut, AtLeast, and_left, and_right, same_front, behind_all_ascii}
-use Rattle.as3_lexer.proofs.Fronts.{behind_is, behind_gives, behind_none}
+use Rattle.as3_lexer.specs.Spelling.{keyword_of, mark_of, mark_spelling}
+use Rattle.as3_lexer.specs.Forms.{IsWord, IsNumber, IsText, IsGap, is_blank, is_in_line, starts_word}
+use Rattle.as3_lexer.specs.Tokens.{IsPiece, IsMatch}
+use Rattle.as3_lexer.specs.Scanning.{behind, closing_place, gap_len, word_len, word_len_of, number_len, text_len, is_quote, word_kind, found, unless_comment, mark_match, or_mark, or_text, or_number, or_word, match_of}
+use Rattle.as3_lexer.proofs.Cuts.{Cut, IfCut, AtLeast, and_left, and_right, behind_all_ascii}
 use Rattle.as3_lexer.proofs.Gaps.{gap_found, gap_covered}
 use Rattle.as3_lexer.proofs.Words.{word_found, word_covered}
 use Rattle.as3_lexer.proofs.Numbers.{number_found, number_covered}
-use Rattle.as3_lexer.proofs.Texts.{text_found, text_covered, not_true, or_left, or_right}
-use Rattle.as3_lexer.proofs.Marks.{is_ascii_small, mark_ascii, is_other, Begins, mark_begins, mark_gives, Longest, mark_longest}
+use Rattle.as3_lexer.proofs.Texts.{text_found, text_covered, not_true}
+use Rattle.as3_lexer.proofs.Marks.{is_ascii_small, mark_ascii, is_other, mark_begins, mark_gives, mark_longest}
 use Rattle.as3_lexer.proofs.Keywords.{keyword_itself, keyword_gives, keyword_none, no_keyword, keyword_word}
 
 -- an ASCII byte that begins no word

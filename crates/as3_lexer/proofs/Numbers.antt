@@ -1,13 +1,13 @@
 -- The number that begins a text.
-use Rattle.std.proofs.Common.{◌≡◌, ℕ, zero, suc, ◌+◌, ◌<◌, ◌≤◌, List, [], ◌∷◌, ◌++◌, length, Option, Some, None, Bool, true, false, cond, inl, inr, refl, ap, sym, ◌∙◌, subst, arith}
-use Rattle.std.specs.Prelude.{◌&&◌, ◌==◌, IsUtf8, codes, nat_lt}
+use Rattle.std.proofs.Common.{◌≡◌, ℕ, ◌+◌, ◌<◌, ◌≤◌, List, [], ◌∷◌, ◌++◌, length, Option, Some, None, Bool, true, false, inl, inr, refl, ap, ◌∙◌, subst, arith}
+use Rattle.std.specs.Prelude.{◌&&◌, IsUtf8, codes, nat_lt}
 use Rattle.std.specs.Bool.{then_some}
 use Rattle.std.specs.List.{list_all, prefix_len}
 use Rattle.std.specs.Char.{is_ascii_digit, is_ascii_hexdigit}
 use Rattle.std.proofs.lemmas.Bool.Decides.{nat_tests}
 use Rattle.as3_lexer.specs.Forms.{AreSome, IsNumber, IsHexadecimal}
 use Rattle.as3_lexer.specs.Scanning.{behind, hexadecimal_len, or_decimal, if_some, number_len}
-use Rattle.as3_lexer.proofs.Cuts.{Cut, IfCut, AtLeast, and_left, run_at_least, run_cut, behind_ascii}
+use Rattle.as3_lexer.proofs.Cuts.{Cut, IfCut, AtLeast, run_at_least, run_cut, behind_ascii}
 use Rattle.as3_lexer.proofs.Fronts.{behind_gives}
 
 digit_small : (byte : ℕ) → is_ascii_digit byte ≡ true → byte < 128

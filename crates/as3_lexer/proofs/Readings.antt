@@ -1,18 +1,18 @@
 -- The reading of a text: it is there, and there is one.
-use Rattle.std.proofs.Common.{◌≡◌, ℕ, zero, suc, ◌+◌, ◌-◌, ◌<◌, ◌≤◌, List, [], ◌∷◌, ◌++◌, length, take, drop, Option, Some, None, inl, inr, refl, ap, sym, ◌∙◌, subst, arith, length-append, append_assoc}
+use Rattle.std.proofs.Common.{◌≡◌, ℕ, zero, suc, ◌+◌, ◌≤◌, List, [], ◌∷◌, ◌++◌, length, Option, Some, None, inl, inr, refl, ap, sym, ◌∙◌, subst, arith, length-append}
 use Rattle.std.specs.Str.{IsCharBoundary}
 use Rattle.std.specs.Prelude.{◌⊎◌, IsUtf8, MatchOption, encode_utf8, encode_utf8_all}
 use Rattle.as3_lexer.specs.declared.token.Token.{Token}
 use Rattle.as3_lexer.specs.declared.token.TokenKind.{TokenKind}
 use Rattle.as3_lexer.specs.declared.token.TokenKind.TheVariants as kind
 use Rattle.as3_lexer.specs.declared.scanning.Match.{Match}
-use Rattle.as3_lexer.specs.Forms.{IsGap, IsWord, IsNumber, IsText, IsToken}
+use Rattle.as3_lexer.specs.Forms.{IsWord}
 use Rattle.as3_lexer.specs.Tokens.{IsPiece, IsMatch, IsLongest, NothingBegins, Piece, AreMatches, token_before, tokens_at}
 use Rattle.as3_lexer.specs.Scanning.{match_of, Begins}
 use Rattle.as3_lexer.proofs.Cuts.{same_front}
 use Rattle.as3_lexer.proofs.Keywords.{keyword_word}
 use Rattle.as3_lexer.proofs.Marks.{mark_begins}
-use Rattle.as3_lexer.proofs.Matches.{Matches, match_found, Covered, match_covered}
+use Rattle.as3_lexer.proofs.Matches.{match_found, match_covered}
 use Rattle.std.proofs.lemmas.Str.{length-encode, len_utf8_bounds, IsCharBoundary-at_seam}
 
 -- a piece has a byte

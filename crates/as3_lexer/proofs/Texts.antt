@@ -1,6 +1,6 @@
 -- The text in quotation marks that begins a text.
-use Rattle.std.proofs.Common.{◌≡◌, ℕ, zero, suc, ◌+◌, ◌-◌, ◌<◌, ◌≤◌, List, [], ◌∷◌, ◌++◌, length, take, drop, Option, Some, None, Bool, true, false, cond, inl, inr, refl, ap, sym, ◌∙◌, subst, arith, length-append, append_assoc}
-use Rattle.std.specs.Prelude.{◌&&◌, ◌||◌, ◌==◌, not, IsUtf8, codes, nat_lt}
+use Rattle.std.proofs.Common.{◌≡◌, ℕ, zero, suc, ◌+◌, ◌<◌, ◌≤◌, List, [], ◌∷◌, ◌++◌, length, drop, Option, Some, None, Bool, true, false, cond, inl, inr, refl, ap, sym, ◌∙◌, subst, arith, length-append, append_assoc}
+use Rattle.std.specs.Prelude.{◌||◌, ◌==◌, not, IsUtf8, codes}
 use Rattle.std.specs.Bool.{then_some}
 use Rattle.std.specs.List.{list_all, concat}
 use Rattle.std.specs.Char.{is_ascii_hexdigit}
@@ -8,7 +8,7 @@ use Rattle.std.proofs.lemmas.Bool.Decides.{nat_tests}
 use Rattle.std.proofs.Math.Seq.{drop-append_seam}
 use Rattle.as3_lexer.specs.Forms.{IsLetter, Itself, Escaped, By_two_digits, By_four_digits, AreLetters, IsQuoted, IsText, is_plain, is_escaped, is_surrogate, code_of}
 use Rattle.as3_lexer.specs.Scanning.{are_two_digits, are_four_digits, escape_len, letter_len, letters_len, is_first, closed_len, is_quote, text_len}
-use Rattle.as3_lexer.proofs.Cuts.{Cut, IfCut, AtLeast, and_left, and_right, behind_ascii}
+use Rattle.as3_lexer.proofs.Cuts.{IfCut, AtLeast, and_left, and_right, behind_ascii}
 use Rattle.as3_lexer.proofs.Fronts.{same_byte}
 use Rattle.as3_lexer.proofs.Letters.{letters_step, letters_end}
 

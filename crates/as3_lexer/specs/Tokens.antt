@@ -1,9 +1,10 @@
 -- The tokens of a text: the longest matches one behind another.
-use Rattle.std.specs.Prelude.{◌≡◌, ◌≢◌, ℕ, ◌+◌, ◌≤◌, List, [], ◌∷◌, ◌++◌, length, drop, codes, Option, None, Some, if◌then◌else◌}
+use Rattle.std.specs.Prelude.{◌≡◌, ◌≢◌, ℕ, ◌+◌, ◌≤◌, List, [], ◌∷◌, ◌++◌, length, drop, codes, nat_eq, Option, None, Some, if◌then◌else◌}
 use Rattle.std.specs.List.{starts_with}
-use Rattle.std.specs.Prelude.{nat_eq}
 use Rattle.as3_lexer.specs.declared.token.Token.{Token}
 use Rattle.as3_lexer.specs.declared.token.TokenKind.{TokenKind}
+use Rattle.as3_lexer.specs.declared.reading.LexRefusal.{LexRefusal}
+use Rattle.as3_lexer.specs.declared.reading.LexRefusal.TheVariants as refusal
 use Rattle.as3_lexer.specs.Forms.{IsToken, IsGap}
 
 -- the bytes are a token of a kind, or what separates tokens
@@ -67,3 +68,8 @@ pub record HasBadToken (text : List ℕ) (place : ℕ) : Type 0 where
   pub nothing : NothingBegins rest
   pub more : 1 ≤ length rest
   pub stands : place + length rest ≡ length text
+
+-- a refusal names the first bad token of a text, or says nothing of the text
+abbrev pub IsRefusal : List ℕ → LexRefusal → Type 0
+IsRefusal text (refusal.BadToken place) = HasBadToken text place
+IsRefusal text refusal.NoMemory = Unit {0}

@@ -1,7 +1,7 @@
 // The reading of a text.
 
-ghost use Rattle.std.specs.Prelude.{◌≡◌, ◌≤◌, ◌+◌, ℕ, IfOk, IfErr, drop, length};
-ghost use Rattle.as3_lexer.specs.Tokens.{HasTokens, HasBadToken, start_of};
+ghost use Rattle.std.specs.Prelude.{◌≡◌, IfOk, IfErr, drop};
+ghost use Rattle.as3_lexer.specs.Tokens.{HasTokens, IsRefusal, start_of};
 ghost use Rattle.as3_lexer.specs.Laws.{IsReadable, IsReadOneWay, HasOneList, HasOneBadToken};
 
 use crate::scanning::{behind, longest_match};
@@ -35,7 +35,7 @@ impl From<NoMemory> for LexRefusal {
 /// and comments. A first U+FEFF is passed over, and is counted in the places.
 pub fn tokens(alloc: Global, text: &str) -> Result<TokenList, LexRefusal>
     ensures tokens { IfOk result (HasTokens text.now) }
-    ensures bad { IfErr result (λ r. (place : ℕ) → r ≡ LexRefusal.BadToken place → HasBadToken text.now place) }
+    ensures bad { IfErr result (IsRefusal text.now) }
 {
     let mut tokens = TokenList::new(alloc);
     let mut rest = behind_mark(text);

@@ -1,4 +1,4 @@
-use Rattle.std.proofs.Common.{rules, ◌∙◌}
+use Rattle.std.proofs.Common.{rules, refl, ◌∙◌}
 use Rattle.as3_lexer.proofs.Laws.{rest_fits, is_bad, behind_gap, behind_token}
 use Rattle.as3_lexer.proofs.reading.tokens.Goals as goal
 use Rattle.as3_lexer.proofs.reading.tokens.Goals.{in-Some-kind+in_ok-push, in_default-kind}
@@ -7,8 +7,8 @@ pub overflow_sub-start : goal.overflow_sub-start
 overflow_sub-start c = rest_fits c.args.text.now c.loop-rest.tokens c.loop-rest.rest.now c.loop-rest.invariant.1
 
 pub returns-in_default-clause-bad : goal.returns-in_default-clause-bad
-returns-in_default-clause-bad c place is =
-    is_bad c.args.text.now c.loop-rest.tokens c.loop-rest.rest.now place c.loop-rest.invariant.1 c.in_default.ensures (search rules) (cc)
+returns-in_default-clause-bad c =
+    is_bad c.args.text.now c.loop-rest.tokens c.loop-rest.rest.now _ c.loop-rest.invariant.1 c.in_default.ensures (search rules) refl
 
 pub loop-rest-preserved : goal.loop-rest-preserved
 loop-rest-preserved c = (

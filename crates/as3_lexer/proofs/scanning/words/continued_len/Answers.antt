@@ -1,7 +1,6 @@
 use Rattle.std.proofs.Common.{rules}
 use Rattle.std.specs.Str.Iter.{chars_rest}
-use Rattle.std.proofs.lemmas.Str.{IsUtf8-past_char}
-use Rattle.as3_lexer.proofs.Characters.{continued, not_continued, none_continued, ends_here, goes_on}
+use Rattle.as3_lexer.proofs.Characters.{none_continued, ends_here, goes_on}
 use Rattle.as3_lexer.proofs.scanning.words.continued_len.Goals as goal
 
 pub returns-then-not-continues_word-clause-value : goal.returns-then-not-continues_word-clause-value
