@@ -1,0 +1,5 @@
+pub mod Classes
+pub mod Properties
+pub mod Events
+pub mod Methods
+pub mod Laws
