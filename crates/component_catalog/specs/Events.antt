@@ -1,5 +1,5 @@
 -- The events that the objects of the native classes send.
-use Rattle.std.specs.Prelude.{ℕ, List, [], ◌∷◌, Bool, true, false, Option, option_map, codes}
+use Rattle.std.specs.Prelude.{ℕ, List, [], ◌∷◌, true, false, Option, option_map, codes}
 use Rattle.std.specs.List.{find}
 use Rattle.std.specs.Str.{bytes_eq}
 use Rattle.component_catalog.specs.declared.class.NativeClass.{NativeClass}

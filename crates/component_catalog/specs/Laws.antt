@@ -9,7 +9,7 @@ use Rattle.component_catalog.specs.declared.value.ValueType.TheVariants.{Int, Bo
 use Rattle.component_catalog.specs.declared.value.StartValue.{StartValue}
 use Rattle.component_catalog.specs.declared.value.StartValue.TheVariants as start
 use Rattle.component_catalog.specs.declared.method.Parameter.{Parameter}
-use Rattle.component_catalog.specs.declared.method.Parameter.TheVariants.{Required, Optional, Listener}
+use Rattle.component_catalog.specs.declared.method.Parameter.TheVariants.{Optional}
 use Rattle.component_catalog.specs.Classes.{classes, name_of, base_of, lineage, lineage_from, class_named}
 use Rattle.component_catalog.specs.Properties.{Property, properties}
 use Rattle.component_catalog.specs.Events.{Event, events}

@@ -1,5 +1,5 @@
 -- The methods of the native classes, with their parameters and results.
-use Rattle.std.specs.Prelude.{ℕ, List, [], ◌∷◌, Bool, true, false, Option, Some, None, option_map, pos, codes}
+use Rattle.std.specs.Prelude.{ℕ, List, [], ◌∷◌, false, Option, Some, None, option_map, pos, codes}
 use Rattle.std.specs.List.{find}
 use Rattle.std.specs.Str.{bytes_eq}
 use Rattle.component_catalog.specs.declared.class.NativeClass.{NativeClass}
