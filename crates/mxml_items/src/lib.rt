@@ -1,0 +1,9 @@
+//! The items of an MXML document: tags, texts, CDATA, comments and instructions, as they stand one
+//! behind another in the bytes of a file. XML 1.0 in the profile of this project.
+#![tactic(auto)]
+
+mod bytes;
+mod names;
+mod place;
+
+pub use place::place_of;
