@@ -1,3 +1,5 @@
 pub mod Marks
 pub mod RunLaws
 pub mod NameLaws
+pub mod References
+pub mod PieceLaws

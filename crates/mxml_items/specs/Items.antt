@@ -2,7 +2,7 @@
 use Rattle.std.specs.Prelude.{◌≡◌, ◌⊎◌, ℕ, ◌+◌, ◌≤◌, ◌==◌, ◌||◌, not, Bool, List, [], ◌∷◌, ◌++◌, length, if◌then◌else◌, codes}
 use Rattle.mxml_items.specs.Forms.{Form, Then, Exactly, AllBytes, SomeBytes, Each, UpToFirst, Longest}
 use Rattle.mxml_items.specs.Names.{IsName}
-use Rattle.mxml_items.specs.Pieces.{Piece, IsPiece, is_white}
+use Rattle.mxml_items.specs.Pieces.{Piece, ArePieces, is_white, is_in_value, is_in_text}
 
 -- an attribute as it is written
 pub record Written : Type 0 where
@@ -20,15 +20,9 @@ pub data Item : Type 0 where
   End_tag : (name : List ℕ) → Item
   Words : (pieces : List Piece) → Item
 
--- a byte that may be written in a value between such quotes, and one in a text
-abbrev pub is_in_value : ℕ → ℕ → Bool
-is_in_value quote b = not ((b == quote) || (b == 60))
-
-abbrev pub is_in_text : ℕ → Bool
-is_in_text b = not (b == 60)
-
+-- pieces between quotes
 abbrev pub IsQuoted : List Piece → ℕ → Form
-IsQuoted pieces quote = Then (Exactly (quote ∷ [])) (Then (Each (IsPiece (is_in_value quote)) pieces) (Exactly (quote ∷ [])))
+IsQuoted pieces quote = Then (Exactly (quote ∷ [])) (Then (λ at bytes. ArePieces (is_in_value quote) pieces bytes) (Exactly (quote ∷ [])))
 
 -- these bytes are a name
 abbrev pub Named : List ℕ → Form
@@ -60,7 +54,7 @@ IsItem (Tag name attributes empty) at bytes =
     (Then (AllBytes is_white)
     (Exactly (if empty then codes "/>" else codes ">"))))) at bytes
 IsItem (End_tag name) at bytes = Then (Exactly (codes "</")) (Then (Named name) (Then (AllBytes is_white) (Exactly (codes ">")))) at bytes
-IsItem (Words pieces) at bytes = (1 ≤ length pieces) × Each (IsPiece is_in_text) pieces at bytes
+IsItem (Words pieces) at bytes = (1 ≤ length pieces) × ArePieces is_in_text pieces bytes
 
 -- an item where it stands
 pub record Placed : Type 0 where

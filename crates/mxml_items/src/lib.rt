@@ -4,6 +4,7 @@
 
 mod bytes;
 mod names;
+mod pieces;
 mod place;
 
 pub use place::place_of;
