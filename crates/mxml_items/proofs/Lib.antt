@@ -3,3 +3,4 @@ pub mod RunLaws
 pub mod NameLaws
 pub mod References
 pub mod PieceLaws
+pub mod AttributeLaws

@@ -1,6 +1,6 @@
 -- The items that the text of a document is a list of: which bytes each form has.
-use Rattle.std.specs.Prelude.{◌≡◌, ◌⊎◌, ℕ, ◌+◌, ◌≤◌, ◌==◌, ◌||◌, not, Bool, List, [], ◌∷◌, ◌++◌, length, if◌then◌else◌, codes}
-use Rattle.mxml_items.specs.Forms.{Form, Then, Exactly, AllBytes, SomeBytes, Each, UpToFirst, Longest}
+use Rattle.std.specs.Prelude.{◌≡◌, ◌⊎◌, ℕ, ◌+◌, ◌≤◌, ◌<◌, Bool, List, [], ◌∷◌, ◌++◌, length, if◌then◌else◌, IsTrue, codes}
+use Rattle.std.specs.List.{list_all}
 use Rattle.mxml_items.specs.Names.{IsName}
 use Rattle.mxml_items.specs.Pieces.{Piece, ArePieces, is_white, is_in_value, is_in_text}
 
@@ -9,7 +9,8 @@ pub record Written : Type 0 where
   -- the place of its name
   pub at : ℕ
   pub name : List ℕ
-  pub value : List Piece
+  -- what stands between its quotes
+  pub value : List ℕ
 
 pub data Item : Type 0 where
   Instruction : Item
@@ -18,43 +19,81 @@ pub data Item : Type 0 where
   -- a start tag, or an empty element
   Tag : (name : List ℕ) (attributes : List Written) (empty : Bool) → Item
   End_tag : (name : List ℕ) → Item
-  Words : (pieces : List Piece) → Item
+  Words : (content : List ℕ) → Item
 
--- pieces between quotes
-abbrev pub IsQuoted : List Piece → ℕ → Form
-IsQuoted pieces quote = Then (Exactly (quote ∷ [])) (Then (λ at bytes. ArePieces (is_in_value quote) pieces bytes) (Exactly (quote ∷ [])))
+-- bytes that are white space, or none
+abbrev pub IsWhite : List ℕ → Type 0
+IsWhite bytes = IsTrue (list_all is_white bytes)
 
--- these bytes are a name
-abbrev pub Named : List ℕ → Form
-Named name at bytes = (bytes ≡ name) × IsName name
+-- what may stand between such quotes
+pub record IsValue (quote : ℕ) (value : List ℕ) : Type 0 where
+  pub is_quote : (quote ≡ 34) ⊎ (quote ≡ 39)
+  pub pieces : List Piece
+  pub are_pieces : ArePieces (is_in_value quote) pieces value
 
--- white space, a name, `=` with white space around it or not, and a value
-abbrev pub IsAttribute : Written → Form
-IsAttribute a =
-    Then (SomeBytes is_white)
-    (Then (λ at bytes. (a.at ≡ at) × Named a.name at bytes)
-    (Then (AllBytes is_white)
-    (Then (Exactly (codes "="))
-    (Then (AllBytes is_white)
-    (λ at bytes. IsQuoted a.value 34 at bytes ⊎ IsQuoted a.value 39 at bytes)))))
+-- white space, a name, `=` with white space around it or not, and a value in quotes
+pub record IsAttribute (a : Written) (at : ℕ) (bytes : List ℕ) : Type 0 where
+  pub gap : List ℕ
+  pub before : List ℕ
+  pub after : List ℕ
+  pub quote : ℕ
+  pub is : bytes ≡ gap ++ (a.name ++ (before ++ (61 ∷ (after ++ (quote ∷ (a.value ++ (quote ∷ [])))))))
+  pub some_gap : 1 ≤ length gap
+  pub is_gap : IsWhite gap
+  pub is_name : IsName a.name
+  pub is_before : IsWhite before
+  pub is_after : IsWhite after
+  pub is_value : IsValue quote a.value
+  pub stands : a.at ≡ at + length gap
+
+-- an attribute, and what stands behind it
+pub record AttributeThen (a : Written) (Others : ℕ → List ℕ → Type 0) (at : ℕ) (bytes : List ℕ) : Type 0 where
+  pub front : List ℕ
+  pub back : List ℕ
+  pub is : bytes ≡ front ++ back
+  pub first : IsAttribute a at front
+  pub second : Others (at + length front) back
+
+-- attributes one behind another
+abbrev pub AreAttributes : List Written → ℕ → List ℕ → Type 0
+AreAttributes [] at bytes = bytes ≡ []
+AreAttributes (a ∷ others) at bytes = AttributeThen a (AreAttributes others) at bytes
+
+abbrev pub closing : Bool → List ℕ
+closing empty = if empty then codes "/>" else codes ">"
+
+pub record IsTag (name : List ℕ) (attributes : List Written) (empty : Bool) (at : ℕ) (bytes : List ℕ) : Type 0 where
+  pub list : List ℕ
+  pub gap : List ℕ
+  pub is : bytes ≡ codes "<" ++ (name ++ (list ++ (gap ++ closing empty)))
+  pub is_name : IsName name
+  pub are_attributes : AreAttributes attributes (at + 1 + length name) list
+  pub is_gap : IsWhite gap
+
+pub record IsEndTag (name bytes : List ℕ) : Type 0 where
+  pub gap : List ℕ
+  pub is : bytes ≡ codes "</" ++ (name ++ (gap ++ codes ">"))
+  pub is_name : IsName name
+  pub is_gap : IsWhite gap
 
 -- what stands between an opening and the first closing behind it
-abbrev pub IsEnclosed : List ℕ → List ℕ → List ℕ → Form
-IsEnclosed opening closing content = Then (Exactly opening) (UpToFirst closing content)
+pub record IsEnclosed (opening ending content bytes : List ℕ) : Type 0 where
+  pub is : bytes ≡ opening ++ (content ++ ending)
+  pub first : (other back : List ℕ) → content ++ ending ≡ other ++ (ending ++ back) → length content ≤ length other
 
--- these bytes are the item
-abbrev pub IsItem : Item → Form
-IsItem Instruction at bytes = (content : List ℕ) × IsEnclosed (codes "<?") (codes "?>") content at bytes
-IsItem Comment at bytes = (content : List ℕ) × IsEnclosed (codes "<!--") (codes "-->") content at bytes
-IsItem (CData content) at bytes = IsEnclosed (codes "<![CDATA[") (codes "]]>") content at bytes
-IsItem (Tag name attributes empty) at bytes =
-    Then (Exactly (codes "<"))
-    (Then (Named name)
-    (Then (Each IsAttribute attributes)
-    (Then (AllBytes is_white)
-    (Exactly (if empty then codes "/>" else codes ">"))))) at bytes
-IsItem (End_tag name) at bytes = Then (Exactly (codes "</")) (Then (Named name) (Then (AllBytes is_white) (Exactly (codes ">")))) at bytes
-IsItem (Words pieces) at bytes = (1 ≤ length pieces) × ArePieces is_in_text pieces bytes
+pub record AreWords (content : List ℕ) : Type 0 where
+  pub not_empty : 1 ≤ length content
+  pub pieces : List Piece
+  pub are_pieces : ArePieces is_in_text pieces content
+
+-- these bytes are the item, which begins at a place
+abbrev pub IsItem : Item → ℕ → List ℕ → Type 0
+IsItem Instruction at bytes = (content : List ℕ) × IsEnclosed (codes "<?") (codes "?>") content bytes
+IsItem Comment at bytes = (content : List ℕ) × IsEnclosed (codes "<!--") (codes "-->") content bytes
+IsItem (CData content) at bytes = IsEnclosed (codes "<![CDATA[") (codes "]]>") content bytes
+IsItem (Tag name attributes empty) at bytes = IsTag name attributes empty at bytes
+IsItem (End_tag name) at bytes = IsEndTag name bytes
+IsItem (Words content) at bytes = (bytes ≡ content) × AreWords content
 
 -- an item where it stands
 pub record Placed : Type 0 where
@@ -63,26 +102,26 @@ pub record Placed : Type 0 where
   -- the place past it
   pub end : ℕ
 
--- no two forms begin alike, so the longest item is the longest of its form
-abbrev pub IsAnyItem : Form
-IsAnyItem at bytes = (item : Item) × IsItem item at bytes
-
--- an item at the front of a text, the longest of its form, and what holds of the text behind it
-pub record Begins (placed : Placed) (Others : Form) (at : ℕ) (text : List ℕ) : Type 0 where
+-- an item at the front of a text, and no longer front of it is an item; what stands behind it
+pub record BeginsWithItem (item : Item) (at : ℕ) (text rest : List ℕ) : Type 0 where
   pub bytes : List ℕ
-  pub others : List ℕ
-  pub is : text ≡ bytes ++ others
-  pub is_item : IsItem placed.item at bytes
-  pub longest : Longest IsAnyItem at bytes others
-  pub stands : placed.at ≡ at
-  pub ends : placed.end ≡ at + length bytes
-  pub go_on : Others placed.end others
-
--- the items of a text one after another, up to a place, and the text from there on
-abbrev pub AreItems : List Placed → ℕ → List ℕ → Form
-AreItems [] end rest at text = (end ≡ at) × (rest ≡ text)
-AreItems (placed ∷ others) end rest at text = Begins placed (AreItems others end rest) at text
+  pub is : text ≡ bytes ++ rest
+  pub is_item : IsItem item at bytes
+  pub longest : (other : Item) (front back : List ℕ) → text ≡ front ++ back → IsItem other at front → length front ≤ length bytes
 
 -- no item begins a text
-abbrev pub NoItemBegins : Form
-NoItemBegins at text = (item : Item) (bytes others : List ℕ) → text ≡ bytes ++ others → ¬ (IsItem item at bytes)
+abbrev pub NoItemBegins : ℕ → List ℕ → Type 0
+NoItemBegins at text = (item : Item) (bytes rest : List ℕ) → text ≡ bytes ++ rest → ¬ (IsItem item at bytes)
+
+-- an item, the longest that stands there, and what holds of the text behind it
+pub record ItemThen (placed : Placed) (Others : ℕ → List ℕ → Type 0) (at : ℕ) (text : List ℕ) : Type 0 where
+  pub rest : List ℕ
+  pub begins : BeginsWithItem placed.item at text rest
+  pub stands : placed.at ≡ at
+  pub ends : placed.end + length rest ≡ at + length text
+  pub go_on : Others placed.end rest
+
+-- the items of a text one after another, up to a place, and the text from there on
+abbrev pub AreItems : List Placed → ℕ → List ℕ → ℕ → List ℕ → Type 0
+AreItems [] end rest at text = (end ≡ at) × (rest ≡ text)
+AreItems (placed ∷ others) end rest at text = ItemThen placed (AreItems others end rest) at text

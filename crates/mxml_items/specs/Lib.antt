@@ -1,6 +1,6 @@
-pub mod Forms
 pub mod Runs
 pub mod Names
 pub mod Pieces
 pub mod Items
+pub mod Reading
 pub mod Places

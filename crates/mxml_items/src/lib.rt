@@ -2,9 +2,12 @@
 //! behind another in the bytes of a file. XML 1.0 in the profile of this project.
 #![tactic(auto)]
 
+mod attributes;
 mod bytes;
+mod item;
 mod names;
 mod pieces;
 mod place;
 
+pub use item::{Attribute, Item};
 pub use place::place_of;
