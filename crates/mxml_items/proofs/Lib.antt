@@ -4,3 +4,5 @@ pub mod NameLaws
 pub mod References
 pub mod PieceLaws
 pub mod AttributeLaws
+pub mod TagLaws
+pub mod ItemLaws

@@ -5,9 +5,11 @@
 mod attributes;
 mod bytes;
 mod item;
+mod items;
 mod names;
 mod pieces;
 mod place;
+mod tags;
 
 pub use item::{Attribute, Item};
 pub use place::place_of;
