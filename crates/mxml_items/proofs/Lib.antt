@@ -6,3 +6,4 @@ pub mod PieceLaws
 pub mod AttributeLaws
 pub mod TagLaws
 pub mod ItemLaws
+pub mod TextLaws

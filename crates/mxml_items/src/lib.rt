@@ -12,4 +12,5 @@ mod place;
 mod tags;
 
 pub use item::{Attribute, Item};
+pub use items::{Items, Placed, read_items};
 pub use place::place_of;
