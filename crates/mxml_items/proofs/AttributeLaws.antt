@@ -212,8 +212,18 @@ attribute_by at text gap behind name given value rest run some named g =
       bytes = gap ++ (name ++ (g.before ++ (61 ∷ (g.after ++ (q.quote ∷ (value ++ (q.quote ∷ [])))))));
       is = run.is ∙ ap (λ x. gap ++ x) (named.is ∙ ap (λ x. name ++ x) (g.is ∙ ap (λ x. g.before ++ (61 ∷ (g.after ++ x))) q.is)) ∙ sym (spread gap name g.before g.after value q.quote rest);
       is_attribute = record {
-        gap = gap; before = g.before; after = g.after; quote = q.quote; is = refl; some_gap = some; is_gap = run.pass; is_name = named.is_name;
-        is_before = g.is_before; is_after = g.is_after; is_value = q.is_value; stands = refl;
+        gap = gap;
+        before = g.before;
+        after = g.after;
+        quote = q.quote;
+        is = refl;
+        some_gap = some;
+        is_gap = run.pass;
+        is_name = named.is_name;
+        is_before = g.is_before;
+        is_after = g.is_after;
+        is_value = q.is_value;
+        stands = refl;
       };
     }
 
@@ -274,7 +284,7 @@ attribute_is_some at text a rest b =
     let p = in_parts at text a rest b in
     let i = b.is_attribute in
     let long = ap length b.is ∙ length-append b.bytes rest in
-    let inner = ap length i.is ∙ length-append i.gap (a.name ++ (i.before ++ (61 ∷ (i.after ++ (i.quote ∷ (a.value ++ (i.quote ∷ [])))))) ) in
+    let inner = ap length i.is ∙ length-append i.gap (a.name ++ (i.before ++ (61 ∷ (i.after ++ (i.quote ∷ (a.value ++ (i.quote ∷ []))))))) in
     let some = i.some_gap in
     omega (arith, long, inner, some)
 

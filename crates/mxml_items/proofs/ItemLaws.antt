@@ -35,7 +35,7 @@ enclosed_longest opening ending c d x r y s h k same = by_order (order (length y
     by_order (inr more) =
         let (back, is) = longer_front x y r s same (omega (arith, more)) in
         let inner : d ++ ending ≡ c ++ (ending ++ back) =
-            cut opening (d ++ ending) (c ++ (ending ++ back)) (sym k.is ∙ is ∙ ap (λ t. t ++ back) h.is ∙ append_assoc opening (c ++ ending) back ∙ ap (λ t. opening ++ t) (append_assoc c ending back)) in
+        cut opening (d ++ ending) (c ++ (ending ++ back)) (sym k.is ∙ is ∙ ap (λ t. t ++ back) h.is ∙ append_assoc opening (c ++ ending) back ∙ ap (λ t. opening ++ t) (append_assoc c ending back)) in
         let less = k.first c back inner in
         let long_x = ap length h.is ∙ length-append opening (c ++ ending) in
         let long_c = length-append c ending in
@@ -129,8 +129,8 @@ item_by it at text bytes rest is h end =
       is = is;
       is_item = h;
       longest = λ other front back same k.
-        let cut = sym is ∙ same in
-        alike it other at bytes rest front back (sym (form_by_code it at bytes rest h) ∙ ap code cut ∙ form_by_code other at front back k) h end k cut;
+          let cut = sym is ∙ same in
+          alike it other at bytes rest front back (sym (form_by_code it at bytes rest h) ∙ ap code cut ∙ form_by_code other at front back k) h end k cut;
     }
 
 enclosed_is : (opening ending text content rest : List ℕ) → BeginsWithEnclosed opening ending text content rest → text ≡ (opening ++ (content ++ ending)) ++ rest

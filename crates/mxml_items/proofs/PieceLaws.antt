@@ -108,7 +108,7 @@ plain_is_all test text rest h none =
     let n : length text - length rest ≡ length a.front = omega (arith, long) in
     let behind : drop (length text - length rest) text ≡ rest = ap (λ k. drop k text) n ∙ ap (drop (length a.front)) a.is ∙ drop-append_seam a.front rest in
     let before : take (length text - length rest) text ≡ a.front =
-        append_cancel_right (take (length text - length rest) text) a.front rest (ap (λ x. take (length text - length rest) text ++ x) (sym behind) ∙ take-append-drop (length text - length rest) text ∙ a.is) in
+    append_cancel_right (take (length text - length rest) text) a.front rest (ap (λ x. take (length text - length rest) text ++ x) (sym behind) ∙ take-append-drop (length text - length rest) text ∙ a.is) in
     record {
       pieces = a.pieces;
       is = sym (take-append-drop (length text - length rest) text);
@@ -137,7 +137,7 @@ pieces_go_on test [] (q ∷ qs) a rest b others h k same none =
     absurd (none q k.front (k.back ++ others) (sym (ap (λ x. x ++ rest) h) ∙ same ∙ ap (λ x. x ++ others) k.is ∙ append_assoc k.front k.back others) k.first)
 pieces_go_on test (p ∷ ps) (q ∷ qs) a rest b others h k same none =
     let cut : h.front ++ (h.back ++ rest) ≡ k.front ++ (k.back ++ others) =
-        sym (ap (λ x. x ++ rest) h.is ∙ append_assoc h.front h.back rest) ∙ same ∙ ap (λ x. x ++ others) k.is ∙ append_assoc k.front k.back others in
+    sym (ap (λ x. x ++ rest) h.is ∙ append_assoc h.front h.back rest) ∙ same ∙ ap (λ x. x ++ others) k.is ∙ append_assoc k.front k.back others in
     let one = same_piece test p q h.front (h.back ++ rest) k.front (k.back ++ others) h.first k.first cut in
     let behind = append_cancel_left k.front (h.back ++ rest) (k.back ++ others) (ap (λ x. x ++ (h.back ++ rest)) (sym one) ∙ cut) in
     let (back, is) = pieces_go_on test ps qs h.back rest k.back others h.second k.second behind none in

@@ -44,9 +44,9 @@ pub too_great : (base : ℕ) (digits : List ℕ) (i number d : ℕ) → 1 ≤ ba
 too_great base digits i number d low within is great c names =
     let f : ℕ → ℕ → ℕ = λ n digit. n * base + digit_value digit in
     let so_far : number_of base (take (i + 1) digits) ≡ number * base + digit_value (get_or digits i d) =
-        fold_more f 0 digits i d within ∙ ap (λ n. n * base + digit_value (get_or digits i d)) (sym is) in
+    fold_more f 0 digits i d within ∙ ap (λ n. n * base + digit_value (get_or digits i d)) (sym is) in
     let whole : number_of base digits ≡ fold f (number_of base (take (i + 1) digits)) (drop (i + 1) digits) =
-        ap (number_of base) (sym (take-append-drop (i + 1) digits)) ∙ fold-append f 0 (take (i + 1) digits) (drop (i + 1) digits) in
+    ap (number_of base) (sym (take-append-drop (i + 1) digits)) ∙ fold-append f 0 (take (i + 1) digits) (drop (i + 1) digits) in
     let grown = fold_grows base low (drop (i + 1) digits) (number_of base (take (i + 1) digits)) in
     let bound = may_bound c names.may in
     omega (arith, so_far, whole, grown, bound, names.names_it)
@@ -64,7 +64,6 @@ pub no_character : (test : ℕ → Bool) (base : ℕ) (text digits rest : List �
 no_character test base text digits rest no_digit run nothing c others d =
     let are = d.are_digits in
     nothing c (subst (NamesCharacter base c) (digits_cut test base text digits rest no_digit run c others d).0 (record { not_empty = are.not_empty; names_it = are.names_it; may = are.may }))
-
 
 -- no reference by name goes on with `#`
 not_by_name : (text body : List ℕ) → text ≡ codes "&#" ++ body → (c : ℕ) (bytes rest : List ℕ) → text ≡ bytes ++ rest → IsNamed c bytes → ⊥
@@ -192,6 +191,6 @@ same_reference c d bytes rest other others r s same =
     let m = shape c bytes r in
     let n = shape d other s in
     let cut = same_run is_no_semicolon (38 ∷ m.body) (codes ";" ++ rest) (38 ∷ n.body) (codes ";" ++ others)
-        (sym (append_assoc (38 ∷ m.body) (codes ";") rest) ∙ ap (λ x. x ++ rest) (sym m.is) ∙ same ∙ ap (λ x. x ++ others) n.is ∙ append_assoc (38 ∷ n.body) (codes ";") others)
-        m.no_semicolon n.no_semicolon refl refl in
+    (sym (append_assoc (38 ∷ m.body) (codes ";") rest) ∙ ap (λ x. x ++ rest) (sym m.is) ∙ same ∙ ap (λ x. x ++ others) n.is ∙ append_assoc (38 ∷ n.body) (codes ";") others)
+    m.no_semicolon n.no_semicolon refl refl in
     m.is ∙ ap (λ x. x ++ codes ";") cut.0 ∙ sym n.is

@@ -110,8 +110,8 @@ attributes_rest (a ∷ xs) [] at place x r y s h k same none no_other =
     absurd (no_other at a (h.back ++ r) (record { bytes = h.front; is = sym (ap (λ t. t ++ s) k) ∙ sym same ∙ ap (λ t. t ++ r) h.is ∙ append_assoc h.front h.back r; is_attribute = h.first }))
 attributes_rest (a ∷ xs) (b ∷ ys) at place x r y s h k same none no_other =
     let others = attribute_rest at place (x ++ r) a b (h.back ++ r) (k.back ++ s)
-        (record { bytes = h.front; is = ap (λ t. t ++ r) h.is ∙ append_assoc h.front h.back r; is_attribute = h.first })
-        (record { bytes = k.front; is = same ∙ ap (λ t. t ++ s) k.is ∙ append_assoc k.front k.back s; is_attribute = k.first }) in
+    (record { bytes = h.front; is = ap (λ t. t ++ r) h.is ∙ append_assoc h.front h.back r; is_attribute = h.first })
+    (record { bytes = k.front; is = same ∙ ap (λ t. t ++ s) k.is ∙ append_assoc k.front k.back s; is_attribute = k.first }) in
     attributes_rest xs ys (at + length h.front) (place + length k.front) h.back r k.back s h.second k.second others none no_other
 
 -- tags
@@ -138,7 +138,7 @@ module _ (at : ℕ) (text name : List ℕ) (attributes : List Written) (empty : 
       let i = h.first in
       let tail_of = a.name ++ (i.before ++ (61 ∷ (i.after ++ (i.quote ∷ (a.value ++ (i.quote ∷ [])))))) in
       let spelled : list ++ tag_end ≡ i.gap ++ (tail_of ++ (h.back ++ tag_end)) =
-          ap (λ t. t ++ tag_end) h.is ∙ append_assoc h.front h.back tag_end ∙ ap (λ t. t ++ (h.back ++ tag_end)) i.is ∙ append_assoc i.gap tail_of (h.back ++ tag_end) in
+      ap (λ t. t ++ tag_end) h.is ∙ append_assoc h.front h.back tag_end ∙ ap (λ t. t ++ (h.back ++ tag_end)) i.is ∙ append_assoc i.gap tail_of (h.back ++ tag_end) in
       subst (StopsAt is_in_name) (sym spelled) (white_first i.gap (tail_of ++ (h.back ++ tag_end)) i.some_gap i.is_gap)
     where
       white_first : (gap others : List ℕ) → 1 ≤ length gap → IsWhite gap → StopsAt is_in_name (gap ++ others)
@@ -156,7 +156,7 @@ module _ (at : ℕ) (text name : List ℕ) (attributes : List Written) (empty : 
   tag_cut body n behind place xs unread gap end is named are run =
       let others = (same_name body name behind_tag_name n behind (tag_body body is) named).1 in
       let ends = attributes_rest attributes xs (at + 1 + length name) place b.is_tag.list tag_end are.bytes unread b.is_tag.are_attributes are.are_attributes (others ∙ are.is)
-          (no_attribute_at_end b.is_tag.gap empty rest b.is_tag.is_gap) are.no_more in
+      (no_attribute_at_end b.is_tag.gap empty rest b.is_tag.is_gap) are.no_more in
       (same_run is_white b.is_tag.gap (closing empty ++ rest) gap end (ends ∙ run.is) b.is_tag.is_gap run.pass (closing_stops is_white refl refl empty rest) run.stops).1
 
 pub no_tag_opening : (text : List ℕ) → ((rest : List ℕ) → text ≢ codes "<" ++ rest) → HasNoTag text

@@ -10,6 +10,8 @@ mod names;
 mod pieces;
 mod place;
 mod tags;
+#[cfg(test)]
+mod tests;
 
 pub use item::{Attribute, Item};
 pub use items::{Items, Placed, read_items};

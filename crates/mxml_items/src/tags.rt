@@ -14,11 +14,7 @@ use std::alloc::Global;
 
 // What stands between an opening at the front of a text and the first ending behind it, and what
 // stands behind that.
-pub fn enclosed<'a>(
-    text: &'a [u8],
-    opening: &[u8],
-    ending: &[u8],
-) -> Option<(&'a [u8], &'a [u8])>
+pub fn enclosed<'a>(text: &'a [u8], opening: &[u8], ending: &[u8]) -> Option<(&'a [u8], &'a [u8])>
     ensures { MatchOption result (HasNoEnclosed opening.now ending.now text.now) (λ r. BeginsWithEnclosed opening.now ending.now text.now r.0.now r.1.now) }
 {
     let body = behind(text, opening)?;
