@@ -13,7 +13,7 @@ use Rattle.component_catalog.specs.declared.method.Parameter.TheVariants.{Option
 use Rattle.component_catalog.specs.Classes.{classes, name_of, base_of, lineage, lineage_from, class_named}
 use Rattle.component_catalog.specs.Properties.{Property, properties}
 use Rattle.component_catalog.specs.Events.{Event, events}
-use Rattle.component_catalog.specs.Methods.{Named, methods, parameters_of}
+use Rattle.component_catalog.specs.Methods.{NamedMethod, methods, parameters_of}
 
 -- no class is missing
 abbrev pub IsListed : Type 0
@@ -30,7 +30,7 @@ GoesUp = (c : NativeClass) → lineage c ≡ c ∷ lineage_from (base_of c)
 -- the names of all rows of a class and its ancestors
 abbrev pub names_along : NativeClass → List (List ℕ)
 names_along c =
-    flat_map (λ level. map (λ (p : Property). p.name) (properties level) ++ map (λ (e : Event). e.name) (events level) ++ map (λ (m : Named). m.name) (methods level)) (lineage c)
+    flat_map (λ level. map (λ (p : Property). p.name) (properties level) ++ map (λ (e : Event). e.name) (events level) ++ map (λ (m : NamedMethod). m.name) (methods level)) (lineage c)
 
 abbrev pub are_distinct : List (List ℕ) → Bool
 are_distinct [] = true
@@ -57,7 +57,7 @@ has_fitting_default _ = true
 abbrev pub has_fitting_values : NativeClass → Bool
 has_fitting_values c =
     list_all (λ (p : Property). fits p.row.start p.row.kind) (properties c)
-    && list_all (λ (m : Named). list_all has_fitting_default (parameters_of m.method)) (methods c)
+    && list_all (λ (m : NamedMethod). list_all has_fitting_default (parameters_of m.method)) (methods c)
 
 abbrev pub is_event : NativeClass → Bool
 is_event class.Event = true

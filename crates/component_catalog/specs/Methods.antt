@@ -63,42 +63,42 @@ result_of method.IsDefaultPrevented = Some Boolean
 abbrev pub row : NativeMethod → Row
 row m = record { method = m; parameters = parameters_of m; result = result_of m }
 
-pub record Named : Type 0 where
+pub record NamedMethod : Type 0 where
   pub name : List ℕ
   pub method : NativeMethod
 
-abbrev pub named : List ℕ → NativeMethod → Named
-named name m = record { name = name; method = m }
+abbrev pub named_method : List ℕ → NativeMethod → NamedMethod
+named_method name m = record { name = name; method = m }
 
-abbrev pub container_methods : List Named
+abbrev pub container_methods : List NamedMethod
 container_methods =
-    named (codes "addElement") method.AddElement
-    ∷ named (codes "removeElement") method.RemoveElement
-    ∷ named (codes "removeAllElements") method.RemoveAllElements
-    ∷ named (codes "getElementAt") method.GetElementAt
+    named_method (codes "addElement") method.AddElement
+    ∷ named_method (codes "removeElement") method.RemoveElement
+    ∷ named_method (codes "removeAllElements") method.RemoveAllElements
+    ∷ named_method (codes "getElementAt") method.GetElementAt
     ∷ []
 
 -- those that a class has beside those of its base
-abbrev pub methods : NativeClass → List Named
+abbrev pub methods : NativeClass → List NamedMethod
 methods class.EventDispatcher =
-    named (codes "addEventListener") method.AddEventListener
-    ∷ named (codes "removeEventListener") method.RemoveEventListener
-    ∷ named (codes "hasEventListener") method.HasEventListener
-    ∷ named (codes "dispatchEvent") method.DispatchEvent
+    named_method (codes "addEventListener") method.AddEventListener
+    ∷ named_method (codes "removeEventListener") method.RemoveEventListener
+    ∷ named_method (codes "hasEventListener") method.HasEventListener
+    ∷ named_method (codes "dispatchEvent") method.DispatchEvent
     ∷ []
 methods class.SkinnableContainer = container_methods
 methods class.Group = container_methods
 methods class.Event =
-    named (codes "stopPropagation") method.StopPropagation
-    ∷ named (codes "stopImmediatePropagation") method.StopImmediatePropagation
-    ∷ named (codes "preventDefault") method.PreventDefault
-    ∷ named (codes "isDefaultPrevented") method.IsDefaultPrevented
+    named_method (codes "stopPropagation") method.StopPropagation
+    ∷ named_method (codes "stopImmediatePropagation") method.StopImmediatePropagation
+    ∷ named_method (codes "preventDefault") method.PreventDefault
+    ∷ named_method (codes "isDefaultPrevented") method.IsDefaultPrevented
     ∷ []
 methods _ = []
 
 -- the method of this name that a class has itself
 abbrev pub own_method : NativeClass → List ℕ → Option NativeMethod
-own_method c name = option_map (λ (m : Named). m.method) (find (λ (m : Named). bytes_eq name m.name) (methods c))
+own_method c name = option_map (λ (m : NamedMethod). m.method) (find (λ (m : NamedMethod). bytes_eq name m.name) (methods c))
 
 -- the row of this name of the nearest class of the chain that has one
 abbrev pub method_of : NativeClass → List ℕ → Option Row

@@ -1,4 +1,5 @@
 -- The lines of a script, one after another.
+use Rattle.flex_base.proofs.TextLaws.{utf8_not}
 use Rattle.std.proofs.Common.{◌≡◌, ◌≢◌, ℕ, zero, suc, ◌+◌, ◌<◌, List, [], ◌∷◌, ◌++◌, length, take, drop, get_or, ◌-◌, length-drop, Bool, true, false, Option, None, Some, Result, Ok, Err, Bor, MatchOption, refl, sym, ap, ◌∙◌, arith, append_assoc, add-one}
 use Rattle.std.specs.Prelude.{cond, nat_lt, if◌then◌else◌, ◌==◌}
 use Rattle.std.specs.List.{position, position_or_len}
@@ -60,13 +61,6 @@ none_ends text none k lt = by (nat_lt (position_or_len is_end text) (length text
 
 pub last_line : (text : List ℕ) → position is_end text ≡ None → lines text ≡ text ∷ []
 last_line text none = rest_onto [] text (none_ends text none)
-
-pub utf8_not : (bytes : List ℕ) → (IsUtf8 bytes → ⊥) → is_utf8 bytes ≡ false
-utf8_not bytes none = cases (is_utf8 bytes) refl
-  where
-    cases : (b : Bool) → is_utf8 bytes ≡ b → is_utf8 bytes ≡ false
-    cases true e = absurd (none (IsUtf8-from_is_utf8 bytes e))
-    cases false e = e
 
 pub ruleset utf8_tests = (utf8_not, is_utf8-from_IsUtf8)
 

@@ -1,4 +1,6 @@
 -- What a file that is played says is determined by its bytes.
+use Rattle.flex_base.proofs.OptionLaws.{some_is}
+use Rattle.flex_base.proofs.ResultLaws.{ok_is}
 use Rattle.std.proofs.Common.{◌≡◌, ℕ, List, Some, Result, Ok, sym, ap, ◌∙◌, subst}
 use Rattle.flex_base.specs.declared.event.UserEvent.{UserEvent}
 use Rattle.script_player.specs.AbcReader.{read_abc}
@@ -22,15 +24,9 @@ file_is_read swf f = swf_is_read swf (saying swf f) f.file
 pub program_is_read : (swf : List ℕ) (f : IsPlayable swf) → read_abc f.code ≡ Some f.abc
 program_is_read swf f = abc_is_read f.abc f.code f.program f.forms
 
-same_some : {A : Type 0} (a b : A) → Some a ≡ Some b → a ≡ b
-same_some a b e = cc
-
-pub same_ok : {A E : Type 0} (r : Result A E) (a b : A) → r ≡ Ok a → r ≡ Ok b → a ≡ b
-same_ok r a b d e = cc
-
 -- two readings of a file say the same
 same_saying : (swf : List ℕ) (f g : IsPlayable swf) → saying swf f ≡ saying swf g
-same_saying swf f g = same_ok (read_swf swf) _ _ (file_is_read swf f) (file_is_read swf g)
+same_saying swf f g = ok_is (read_swf swf) _ _ (file_is_read swf f) (file_is_read swf g)
 
 pub same_main : (swf : List ℕ) (f g : IsPlayable swf) → f.main ≡ g.main
 same_main swf f g = ap (λ (s : Swf). s.main) (same_saying swf f g)
@@ -38,7 +34,7 @@ same_main swf f g = ap (λ (s : Swf). s.main) (same_saying swf f g)
 pub same_abc : (swf : List ℕ) (f g : IsPlayable swf) → f.abc ≡ g.abc
 same_abc swf f g =
     let code : f.code ≡ g.code = ap (λ (s : Swf). s.abc) (same_saying swf f g) in
-    same_some _ _ (sym (program_is_read swf f) ∙ ap read_abc code ∙ program_is_read swf g)
+    some_is _ _ (sym (program_is_read swf f) ∙ ap read_abc code ∙ program_is_read swf g)
 
 -- what one reading of the file comes to, any other comes to
 pub comes_alike : (swf : List ℕ) (events : List UserEvent) (turns : ℕ) (story : Story) (f g : IsPlayable swf)

@@ -1,4 +1,5 @@
 -- What was printed of a play.
+use Rattle.flex_base.proofs.ResultLaws.{ok_is}
 use Rattle.std.proofs.Common.{◌≡◌, ℕ, List, [], ◌++◌, None, Some, Ok, Err, Result, refl, sym, ap, ◌∙◌, subst, append_assoc}
 use Rattle.std.proofs.lemmas.List.{append-nil}
 use Rattle.abc_format.specs.declared.records.Abc.{Abc}
@@ -20,7 +21,7 @@ use Rattle.swf_tags.specs.declared.types.Swf.{Swf}
 use Rattle.flex_base.specs.Story.{Story, lines, text, with_end}
 use Rattle.flex_edge.specs.Whole.{HasTaken, Prints}
 use Rattle.script_player.proofs.EndLaws.{one_story}
-use Rattle.script_player.proofs.FileLaws.{same_ok, file_is_read, program_is_read, comes_alike}
+use Rattle.script_player.proofs.FileLaws.{file_is_read, program_is_read, comes_alike}
 
 -- memory was refused before anything was printed
 pub nothing_printed : (P : Story → Type 0) (old : SinkState) → PrintsText P old (Err refused.NoMemory) old
@@ -88,10 +89,10 @@ module _ (swf : List ℕ) (f : IsPlayable swf) where
 
   module _ (file : Swf) (is : read_swf swf ≡ Ok file) where
     code_is : f.code ≡ file.abc
-    code_is = ap (λ (s : Swf). s.abc) (same_ok (read_swf swf) _ _ (file_is_read swf f) is)
+    code_is = ap (λ (s : Swf). s.abc) (ok_is (read_swf swf) _ _ (file_is_read swf f) is)
 
     main_is : f.main ≡ file.main
-    main_is = ap (λ (s : Swf). s.main) (same_ok (read_swf swf) _ _ (file_is_read swf f) is)
+    main_is = ap (λ (s : Swf). s.main) (ok_is (read_swf swf) _ _ (file_is_read swf f) is)
 
     pub program_is_there : read_abc file.abc ≡ None → ⊥
     program_is_there none = none_is _ (sym (program_is_read swf f) ∙ ap read_abc code_is ∙ none)

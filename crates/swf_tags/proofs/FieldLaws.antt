@@ -1,4 +1,5 @@
 -- What stands at the start of bytes is read, and what is read stands there.
+use Rattle.flex_base.proofs.OptionLaws.{some_is}
 use Rattle.std.proofs.Common.{◌≡◌, ℕ, zero, suc, ◌+◌, ◌*◌, ◌/◌, ◌%◌, ◌^◌, ◌<◌, ◌≤◌, Bool, true, false, not, cond, List, [], ◌∷◌, ◌++◌, length, take, drop, Option, Some, None, refl, sym, ap, ap₂, subst, ◌∙◌, ◌⊎◌, inl, inr, arith, add-one, append_assoc, length-append, length-take}
 use Rattle.std.specs.Prelude.{if◌then◌else◌, ◌==◌, ◌≢◌, nat_lt, nat_le, All}
 use Rattle.std.specs.List.{position, position_or_len}
@@ -27,9 +28,6 @@ split-front n front rest e =
     ap (λ t. if t then Some (record { it = take n (front ++ rest); rest = drop n (front ++ rest) }) else None) (le-leb n (length (front ++ rest)) within)
     ∙ ap (λ l. Some (record { it = l; rest = drop n (front ++ rest) })) it
     ∙ ap (λ l. Some (record { it = front; rest = l })) behind
-
-some_is : {A : Type 0} (x y : A) → Some x ≡ Some y → x ≡ y
-some_is x y e = cc
 
 abbrev taken : ℕ → List ℕ → Bool → Option (Front (List ℕ))
 taken n bytes t = if t then Some (record { it = take n bytes; rest = drop n bytes }) else None

@@ -1,4 +1,6 @@
 -- Tags, programs and pairs are read, and what is read is there.
+use Rattle.flex_base.proofs.OptionLaws.{some_is}
+use Rattle.flex_base.proofs.ResultLaws.{ok_is}
 use Rattle.std.proofs.Common.{◌≡◌, ℕ, zero, suc, ◌+◌, ◌*◌, ◌/◌, ◌%◌, ◌^◌, ◌<◌, ◌≤◌, Bool, true, false, List, [], ◌∷◌, ◌++◌, length, Option, Some, None, Result, Ok, Err, refl, sym, ap, ap₂, subst, ◌∙◌, ◌⊎◌, inl, inr, arith, append_assoc, length-append}
 use Rattle.std.specs.Prelude.{if◌then◌else◌, ◌==◌, ◌≢◌, All}
 use Rattle.std.proofs.lemmas.Bool.{eq-eqb, ne_eqb, eqb-true, eqb-false}
@@ -16,12 +18,6 @@ use Rattle.swf_tags.proofs.FieldLaws.{split-front, split-gives, number-front, nu
 -- one part and another behind it
 pub both : (P Q : List ℕ → Type 0) (front back : List ℕ) → P front → Q back → Split P Q (front ++ back)
 both P Q front back first second = record { front = front; back = back; is = refl; first = first; second = second }
-
-pub some_is : {A : Type 0} (x y : A) → Some x ≡ Some y → x ≡ y
-some_is x y e = cc
-
-pub ok_is : {A : Type 0} (r : Result A Fault) (x y : A) → r ≡ Ok x → r ≡ Ok y → x ≡ y
-ok_is r x y d e = cc
 
 short-front : (code size : ℕ) (rest : List ℕ) → code < 1024 → size < 63
     → next_header (header_bytes false code size ++ rest) ≡ Some (record { it = record { code = code; long = false; length = size }; rest = rest })

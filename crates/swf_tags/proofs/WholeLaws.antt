@@ -1,4 +1,6 @@
 -- A SWF file is read, and what is read is a SWF file.
+use Rattle.flex_base.proofs.OptionLaws.{some_is}
+use Rattle.flex_base.proofs.ResultLaws.{ok_is}
 use Rattle.std.proofs.Common.{◌≡◌, ℕ, zero, suc, ◌+◌, ◌*◌, ◌/◌, ◌^◌, ◌<◌, ◌≤◌, Bool, true, false, List, [], ◌∷◌, ◌++◌, length, take, drop, Option, Some, None, Result, Ok, Err, refl, sym, ap, ap₂, subst, ◌∙◌, ◌⊎◌, inl, inr, arith, append_assoc, length-append, length-drop}
 use Rattle.std.specs.Prelude.{if◌then◌else◌, ◌==◌, ◌≢◌, ◌&&◌, ◌||◌, ◌↔◌, All, codes}
 use Rattle.std.specs.Str.{IsUtf8}
@@ -16,7 +18,6 @@ use Rattle.swf_tags.specs.declared.types.Swf.{Swf}
 use Rattle.swf_tags.specs.declared.types.Tag.{Tag}
 use Rattle.swf_tags.specs.declared.types.SwfReason.TheVariants as reason
 use Rattle.swf_tags.proofs.FieldLaws.{split-front, split-gives, number-front, number-gives, append-bytes}
-use Rattle.swf_tags.proofs.PartLaws.{some_is, ok_is}
 use Rattle.swf_tags.proofs.TagLaws.{TagsSay, tags-read, tags-give}
 
 header-size : (part : Part) (bytes : List ℕ) → IsHeader part bytes → 0 < length bytes
