@@ -1,16 +1,16 @@
 -- Attributes: where their parts end.
-use Rattle.std.proofs.Common.{◌≡◌, ◌≢◌, ◌⊎◌, ℕ, suc, ◌+◌, ◌-◌, ◌<◌, ◌≤◌, List, [], ◌∷◌, ◌++◌, length, map, Bool, true, false, inl, inr, refl, ap, sym, ◌∙◌, subst, true≢false, eqb, append_assoc, arith}
-use Rattle.std.specs.Prelude.{◌&&◌, ◌||◌, IsTrue, codes}
+use Rattle.std.proofs.Common.{◌≡◌, ◌≢◌, ◌⊎◌, ℕ, ◌+◌, ◌-◌, ◌<◌, ◌≤◌, List, [], ◌∷◌, ◌++◌, length, Bool, true, false, inl, inr, refl, ap, sym, ◌∙◌, subst, true≢false, eqb, append_assoc, arith}
+use Rattle.std.specs.Prelude.{◌||◌, codes}
 use Rattle.std.specs.List.{list_all}
 use lib.Utf8.{encode, encodes}
 use Rattle.std.proofs.lemmas.Str.{length-encode, len_utf8_bounds}
-use Rattle.std.proofs.lemmas.List.{length-append, append_cancel_left, append_cancel_right}
+use Rattle.std.proofs.lemmas.List.{length-append, append_cancel_left}
 use Rattle.mxml_items.specs.Runs.{IsRun, StopsAt, is_in_name}
 use Rattle.mxml_items.specs.Names.{IsPart, IsName, BeginsWithName, HasNoName}
-use Rattle.mxml_items.specs.Pieces.{is_white, is_in_value, ArePieces, IsWritten}
+use Rattle.mxml_items.specs.Pieces.{is_white, is_in_value, IsWritten}
 use Rattle.mxml_items.specs.Items.{Written, IsWhite, IsValue, IsAttribute, AreAttributes}
-use Rattle.mxml_items.specs.Reading.{BeginsWithQuoted, HasNoQuoted, BeginsWithValue, HasNoValue, BeginsWithGiven, HasNoGiven, BeginsWithAttribute, HasNoAttribute, BeginsWithAttributes}
-use Rattle.mxml_items.proofs.RunLaws.{both, and_true, head, tail, same_run}
+use Rattle.mxml_items.specs.Reading.{BeginsWithQuoted, HasNoQuoted, BeginsWithValue, BeginsWithGiven, HasNoGiven, BeginsWithAttribute, HasNoAttribute, BeginsWithAttributes}
+use Rattle.mxml_items.proofs.RunLaws.{both, head, tail, same_run}
 use Rattle.mxml_items.proofs.NameLaws.{name_passes}
 use Rattle.mxml_items.proofs.References.{either}
 use Rattle.mxml_items.proofs.PieceLaws.{same_pieces, quote_ends}

@@ -1,16 +1,15 @@
 -- Items: no two forms begin alike, and each is read as far as it goes.
 use Rattle.std.proofs.Common.{◌≡◌, ◌≢◌, ◌⊎◌, ℕ, suc, ◌+◌, ◌-◌, ◌<◌, ◌≤◌, List, [], ◌∷◌, ◌++◌, length, map, Option, None, Some, Result, Ok, Err, MatchOption, IfOk, Bor, Bool, true, false, cond, inl, inr, refl, ap, sym, ◌∙◌, subst, true≢false, eqb, not, append_assoc, arith}
-use Rattle.std.specs.Prelude.{IsTrue, codes}
+use Rattle.std.specs.Prelude.{codes}
 use Rattle.std.proofs.lemmas.List.{length-append}
 use Rattle.mxml_items.specs.Runs.{is_in_name}
-use Rattle.mxml_items.specs.Names.{IsName}
 use Rattle.mxml_items.specs.Pieces as p
 use Rattle.mxml_items.specs.Pieces.{Piece, ArePieces, HasNoPiece, is_in_text}
-use Rattle.mxml_items.specs.Items.{Item, Instruction, Comment, CData, Tag, End_tag, Words, Written, IsItem, IsEnclosed, AreWords, IsTag, IsEndTag, closing, BeginsWithItem, NoItemBegins}
+use Rattle.mxml_items.specs.Items.{Item, Instruction, Comment, CData, Tag, End_tag, Words, Written, IsItem, IsEnclosed, AreWords, closing, BeginsWithItem, NoItemBegins}
 use Rattle.mxml_items.specs.declared.item.Item as Code
 use Rattle.mxml_items.specs.declared.item.Item.TheVariants as item
-use Rattle.mxml_items.specs.Reading.{item_of, written, BeginsWithEnclosed, HasNoEnclosed, BeginsWithEndTag, HasNoEndTag, BeginsWithTag, HasNoTag, BeginsWithWords, HasNoWords, IsTagAt}
-use Rattle.mxml_items.proofs.RunLaws.{both, head, tail}
+use Rattle.mxml_items.specs.Reading.{item_of, written, BeginsWithEnclosed, HasNoEnclosed, BeginsWithEndTag, HasNoEndTag, HasNoTag, BeginsWithWords, HasNoWords, IsTagAt}
+use Rattle.mxml_items.proofs.RunLaws.{head, tail}
 use Rattle.mxml_items.proofs.References.{shape}
 use Rattle.mxml_items.proofs.AttributeLaws.{name_goes_on}
 use Rattle.mxml_items.proofs.TagLaws.{end_rest, tag_rest, words_longest}

@@ -1,6 +1,6 @@
 -- Parts of names by their characters and by their bytes.
-use Rattle.std.proofs.Common.{Option, None, Some, MatchOption, Bor, drop, ◌≡◌, ◌≢◌, ◌⊎◌, ◌↔◌, ℕ, ◌+◌, ◌<◌, ◌≤◌, List, [], ◌∷◌, ◌++◌, length, Bool, true, false, inl, inr, refl, ap, sym, ◌∙◌, subst, true≢false, ltb, eqb, not, zero, suc, get_or, lit<, arith}
-use Rattle.std.specs.Prelude.{◌&&◌, ◌||◌, IsTrue, codes}
+use Rattle.std.proofs.Common.{Option, None, Some, MatchOption, Bor, drop, ◌≡◌, ◌≢◌, ◌↔◌, ℕ, ◌+◌, ◌<◌, ◌≤◌, List, [], ◌∷◌, ◌++◌, length, Bool, true, false, inl, inr, refl, ap, sym, ◌∙◌, subst, true≢false, ltb, eqb, not, zero, suc, get_or, lit<, arith}
+use Rattle.std.specs.Prelude.{◌||◌, IsTrue, codes}
 use Rattle.std.specs.List.{list_all}
 use Rattle.std.specs.Str.{IsUtf8, IsAscii, chars}
 use lib.Utf8.{encode, encodes, scalar, scalars}
@@ -10,7 +10,7 @@ use Rattle.std.specs.Str.Pattern.{FindsPrefixBy}
 use Rattle.std.specs.Char.{IsScalar, is_ascii_alphabetic, is_ascii_digit}
 use Rattle.unicode_ident.specs.Ident.{is_xid_start, is_xid_continue}
 use Rattle.mxml_items.specs.Runs.{IsRun, is_in_part, is_in_name}
-use Rattle.mxml_items.specs.Names.{IsPart, IsName, BeginsWithName, HasNoName, HasNoStart, BeginsWithStart, starts_part, continues_part}
+use Rattle.mxml_items.specs.Names.{IsPart, IsName, BeginsWithName, HasNoName, HasNoStart, BeginsWithStart, continues_part}
 use Rattle.mxml_items.proofs.RunLaws.{both, and_true, PassesHigh, encode_passes, encodes_pass, list_all_weaker, same_run, tail}
 
 -- a part by its first character and the others

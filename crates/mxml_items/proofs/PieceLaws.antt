@@ -1,15 +1,14 @@
 -- Pieces one behind another: how they join, and where they end.
-use Rattle.std.proofs.Common.{◌≡◌, ◌≢◌, ◌⊎◌, ℕ, suc, ◌+◌, ◌-◌, ◌<◌, ◌≤◌, List, [], ◌∷◌, ◌++◌, length, take, drop, map, Option, None, Some, Bool, true, false, inl, inr, refl, ap, sym, ◌∙◌, subst, true≢false, eqb, not, append_assoc, arith}
-use Rattle.std.specs.Prelude.{◌&&◌, ◌||◌, IsTrue, codes}
+use Rattle.std.proofs.Common.{◌≡◌, ◌≢◌, ℕ, ◌+◌, ◌-◌, ◌<◌, List, [], ◌∷◌, ◌++◌, length, take, drop, map, Bool, true, false, refl, ap, sym, ◌∙◌, subst, true≢false, eqb, not, append_assoc, arith}
+use Rattle.std.specs.Prelude.{◌&&◌, ◌||◌}
 use Rattle.std.specs.List.{list_all}
 use Rattle.std.proofs.Math.Seq.{drop-append_seam}
 use Rattle.std.proofs.lemmas.List.{length-append, append_cancel_left, take-append-drop, append_cancel_right}
-use Rattle.flex_base.specs.Split.{Split, Each}
 use Rattle.mxml_items.specs.declared.bytes.ByteKind.TheVariants as kind
 use Rattle.mxml_items.specs.Runs.{IsRun, StopsAt, takes}
-use Rattle.mxml_items.specs.Pieces.{Piece, Written, Referred, IsPiece, ArePieces, is_in_text, is_in_value, may_be_written, HasNoPiece, HasNoReference, BeginsWithReference, BeginsWithPieces, IsPlain, IsWritten}
-use Rattle.mxml_items.proofs.RunLaws.{both, and_true, head, tail}
-use Rattle.mxml_items.proofs.References.{HasShape, shape, same_reference}
+use Rattle.mxml_items.specs.Pieces.{Piece, Written, Referred, IsPiece, ArePieces, is_in_text, is_in_value, HasNoPiece, HasNoReference, BeginsWithReference, IsPlain, IsWritten}
+use Rattle.mxml_items.proofs.RunLaws.{both, and_true, head}
+use Rattle.mxml_items.proofs.References.{shape, same_reference}
 
 each_join : (test : ℕ → Bool) (ps qs : List Piece) (a b : List ℕ) → ArePieces test ps a → ArePieces test qs b → ArePieces test (ps ++ qs) (a ++ b)
 each_join test [] qs a b h k = subst (λ x. ArePieces test qs (x ++ b)) (sym h) k

@@ -1,14 +1,14 @@
 -- References: what is read of them, and where they end.
-use Rattle.std.proofs.Common.{Option, None, Some, MatchOption, ◌≡◌, ◌≢◌, ◌⊎◌, ℕ, suc, ◌+◌, ◌*◌, ◌<◌, ◌≤◌, List, [], ◌∷◌, ◌++◌, length, take, drop, get_or, Bool, true, false, inl, inr, refl, ap, sym, ◌∙◌, subst, true≢false, ltb, leb, eqb, not, append_assoc, arith}
-use Rattle.std.specs.Prelude.{◌&&◌, ◌||◌, IsTrue, codes}
+use Rattle.std.proofs.Common.{Option, None, Some, MatchOption, ◌≡◌, ◌≢◌, ◌⊎◌, ℕ, ◌+◌, ◌*◌, ◌<◌, ◌≤◌, List, [], ◌∷◌, ◌++◌, length, take, drop, get_or, Bool, true, false, inl, inr, refl, ap, sym, ◌∙◌, subst, true≢false, ltb, leb, eqb, not, append_assoc, arith}
+use Rattle.std.specs.Prelude.{◌&&◌, ◌||◌, codes}
 use Rattle.std.specs.List.{list_all, fold}
 use Rattle.std.specs.Char.{is_ascii_digit, is_ascii_hexdigit, digit_value}
-use Rattle.std.proofs.lemmas.List.{take-append-drop, length-append}
+use Rattle.std.proofs.lemmas.List.{take-append-drop}
 use Rattle.std.proofs.lemmas.List.Sums.{fold-append, fold_more}
 use Rattle.std.proofs.lemmas.List.Folds.{list_all-append}
 use Rattle.std.proofs.Math.Nat.{mul-le-mul_left}
-use Rattle.mxml_items.specs.Runs.{IsRun, StopsAt}
-use Rattle.mxml_items.specs.Pieces.{IsNamed, Less, Greater, Ampersand, Quote, Apostrophe, IsNumbered, AreDigits, IsReference, number_of, may_be_named, BeginsWithReference, HasNoReference, BeginsWithNamed, HasNoNamed, BeginsWithDigits, HasNoDigits, NamesCharacter, NamesNothing}
+use Rattle.mxml_items.specs.Runs.{IsRun}
+use Rattle.mxml_items.specs.Pieces.{IsNamed, Less, Greater, Ampersand, Quote, Apostrophe, IsNumbered, AreDigits, IsReference, number_of, may_be_named, BeginsWithReference, BeginsWithNamed, BeginsWithDigits, HasNoDigits, NamesCharacter, NamesNothing}
 use Rattle.mxml_items.proofs.RunLaws.{both, and_true, head, tail, same_run, list_all_weaker}
 
 pub either : (x y : Bool) → (x || y) ≡ true → (x ≡ true) ⊎ (y ≡ true)

@@ -1,17 +1,16 @@
 -- Tags: where their parts end.
-use Rattle.std.proofs.Common.{◌≡◌, ◌≢◌, ◌⊎◌, ℕ, suc, ◌+◌, ◌-◌, ◌<◌, ◌≤◌, List, [], ◌∷◌, ◌++◌, length, Bool, true, false, inl, inr, refl, ap, sym, ◌∙◌, subst, true≢false, eqb, append_assoc, arith}
-use Rattle.std.specs.Prelude.{◌&&◌, IsTrue, codes}
+use Rattle.std.proofs.Common.{◌≡◌, ◌≢◌, ℕ, ◌+◌, ◌-◌, ◌<◌, ◌≤◌, List, [], ◌∷◌, ◌++◌, length, Bool, true, false, refl, ap, sym, ◌∙◌, subst, true≢false, append_assoc, arith}
+use Rattle.std.specs.Prelude.{codes}
 use Rattle.std.specs.List.{list_all}
 use Rattle.std.proofs.lemmas.List.{length-append, append_cancel_left}
 use Rattle.mxml_items.specs.Runs.{IsRun, StopsAt, Lacks, SplitsAt, is_in_name}
 use Rattle.mxml_items.specs.Names.{IsName, BeginsWithName, HasNoName}
 use Rattle.mxml_items.specs.Pieces.{is_white, is_in_text, Piece, ArePieces, IsWritten, HasNoPiece}
-use Rattle.mxml_items.specs.Items.{Written, IsWhite, IsAttribute, AreAttributes, IsTag, IsEndTag, IsEnclosed, AreWords, closing}
-use Rattle.mxml_items.specs.Reading.{BeginsWithAttribute, HasNoAttribute, BeginsWithAttributes, BeginsWithEnclosed, HasNoEnclosed, BeginsWithEndTag, HasNoEndTag, BeginsWithTag, HasNoTag, BeginsWithWords, HasNoWords, HasNoClosing}
+use Rattle.mxml_items.specs.Items.{Written, IsWhite, AreAttributes, AreWords, closing}
+use Rattle.mxml_items.specs.Reading.{HasNoAttribute, BeginsWithAttributes, BeginsWithEnclosed, HasNoEnclosed, BeginsWithEndTag, HasNoEndTag, BeginsWithTag, HasNoTag, BeginsWithWords, HasNoWords, HasNoClosing}
 use Rattle.mxml_items.proofs.RunLaws.{both, head, tail, same_run}
-use Rattle.mxml_items.proofs.NameLaws.{name_passes}
 use Rattle.mxml_items.proofs.PieceLaws.{pieces_go_on}
-use Rattle.mxml_items.proofs.AttributeLaws.{no_name_in_white, stops_behind_white, name_goes_on, white_stops, same_name, attribute_rest, no_attribute_name}
+use Rattle.mxml_items.proofs.AttributeLaws.{no_name_in_white, stops_behind_white, name_goes_on, same_name, attribute_rest, no_attribute_name}
 
 -- what is enclosed is what stands before the first ending
 pub enclosed_by : (opening ending text body content rest : List ℕ) → text ≡ opening ++ body → SplitsAt ending body content rest → BeginsWithEnclosed opening ending text content rest

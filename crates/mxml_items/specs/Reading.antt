@@ -1,5 +1,5 @@
 -- What stands at the front of a text, or that nothing of a form does.
-use Rattle.std.specs.Prelude.{◌≡◌, ◌≢◌, ℕ, ◌+◌, Bool, List, ◌∷◌, ◌++◌, length, map, Option, Some, None, codes}
+use Rattle.std.specs.Prelude.{◌≡◌, ◌≢◌, ℕ, ◌+◌, Bool, List, ◌∷◌, ◌++◌, map}
 use Rattle.mxml_items.specs.declared.item.Attribute.{Attribute}
 use Rattle.mxml_items.specs.Items.{Written, IsWhite, IsValue, IsAttribute, AreAttributes, IsTag, IsEndTag, IsEnclosed, AreWords, closing}
 use Rattle.mxml_items.specs.Items as Stated

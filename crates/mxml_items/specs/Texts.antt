@@ -1,5 +1,5 @@
 -- The items of a whole text.
-use Rattle.std.specs.Prelude.{◌≡◌, ◌≢◌, ◌⊎◌, ◌≤◌, ℕ, ◌+◌, ◌-◌, List, [], ◌∷◌, ◌++◌, length, map}
+use Rattle.std.specs.Prelude.{◌≡◌, ◌≢◌, ◌⊎◌, ℕ, ◌+◌, ◌-◌, List, [], ◌∷◌, ◌++◌, length, map}
 use Rattle.mxml_items.specs.declared.items.Placed as Code
 use Rattle.mxml_items.specs.declared.items.Items as Code_of_text
 use Rattle.mxml_items.specs.Items.{Placed, BeginsWithItem, AreItems, NoItemBegins}

@@ -1,6 +1,6 @@
 // Runs of bytes, and what stands behind a beginning.
 
-ghost use Rattle.std.specs.Prelude.{◌≡◌, ◌≢◌, ◌++◌, ◌≤◌, ◌<◌, ℕ, List, length, MatchOption};
+ghost use Rattle.std.specs.Prelude.{◌≡◌, ◌≢◌, ◌++◌, ◌<◌, ℕ, List, MatchOption};
 ghost use Rattle.mxml_items.specs.Runs.{IsRun, Lacks, SplitsAt, takes};
 
 // A kind of bytes.

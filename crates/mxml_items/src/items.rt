@@ -1,6 +1,6 @@
 // The items of a text, one behind another.
 
-ghost use Rattle.std.specs.Prelude.{◌≡◌, ◌+◌, ◌-◌, ◌<◌, ◌≤◌, ◌^◌, length, IfOk, MatchOption};
+ghost use Rattle.std.specs.Prelude.{◌+◌, ◌-◌, ◌<◌, ◌≤◌, ◌^◌, length, IfOk, MatchOption};
 ghost use Rattle.mxml_items.specs.Items.{BeginsWithItem, NoItemBegins};
 ghost use Rattle.mxml_items.specs.Reading.{item_of};
 ghost use Rattle.mxml_items.specs.Texts.{HasItems, IsBegun, IsPlacedAt, placed_of};

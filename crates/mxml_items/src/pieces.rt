@@ -1,6 +1,6 @@
 // What a text or the value of an attribute is written with: bytes and references.
 
-ghost use Rattle.std.specs.Prelude.{◌≡◌, ◌≤◌, ◌<◌, MatchOption, length, nat_lt};
+ghost use Rattle.std.specs.Prelude.{◌≡◌, ◌≤◌, ◌<◌, MatchOption};
 ghost use Rattle.std.specs.Char.{is_ascii_digit, is_ascii_hexdigit, digit_value};
 ghost use Rattle.mxml_items.specs.Pieces.{BeginsWithDigits, BeginsWithNamed, BeginsWithReference, HasNoDigits, HasNoNamed, HasNoReference, IsPlain, IsWritten, NamesCharacter, NamesNothing, may_be_named, may_be_written};
 

@@ -1,4 +1,4 @@
-use Rattle.std.proofs.Common.{◌≡◌, ◌∷◌, ◌++◌, [], map, ap, ◌∙◌, subst, sym, refl, length, List}
+use Rattle.std.proofs.Common.{◌∷◌, [], map, ap, ◌∙◌, subst, sym, refl, List}
 use Rattle.std.proofs.lemmas.List.{map-append}
 use Rattle.mxml_items.specs.Items.{Written}
 use Rattle.mxml_items.specs.Reading.{written}

@@ -1,4 +1,3 @@
-use Rattle.std.proofs.Common.{ap, ◌∙◌}
 use Rattle.mxml_items.proofs.AttributeLaws.{value_cut}
 use Rattle.mxml_items.proofs.attributes.quoted_by.Goals as goal
 

@@ -1,6 +1,5 @@
-use Rattle.std.proofs.Common.{◌≡◌, ◌≤◌, ◌-◌, ◌++◌, List, ℕ, length, map}
-use Rattle.mxml_items.specs.Items.{Placed, AreItems}
-use Rattle.mxml_items.specs.Texts.{IsBegun, placed_of}
+use Rattle.std.proofs.Common.{◌-◌, length, map}
+use Rattle.mxml_items.specs.Texts.{placed_of}
 use Rattle.mxml_items.proofs.TextLaws.{ItemsSoFar}
 use Rattle.mxml_items.proofs.items.read_items.Given as goal
 

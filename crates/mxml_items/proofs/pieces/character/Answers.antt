@@ -1,4 +1,4 @@
-use Rattle.std.proofs.Common.{subst, ap, ◌<◌, ◌+◌, ◌*◌, arith}
+use Rattle.std.proofs.Common.{arith}
 use Rattle.mxml_items.proofs.References.{too_great}
 use Rattle.mxml_items.proofs.pieces.character.Goals as goal
 

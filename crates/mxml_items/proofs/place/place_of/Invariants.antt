@@ -1,4 +1,4 @@
-use Rattle.std.proofs.Common.{◌≡◌, ◌≤◌, ◌+◌, take}
+use Rattle.std.proofs.Common.{◌≡◌, ◌≤◌, ◌+◌}
 use Rattle.mxml_items.specs.Places.{place_of}
 use Rattle.mxml_items.proofs.place.place_of.Given as goal
 
