@@ -1,0 +1,14 @@
+pub mod Steps
+pub mod Predict
+pub mod Tables
+pub mod Fine
+pub mod Levels
+pub mod Derives
+pub mod Judge
+pub mod Marks
+pub mod Cells
+pub mod Rows
+pub mod Prefixes
+pub mod Loop
+pub mod Ended
+pub mod Verdicts

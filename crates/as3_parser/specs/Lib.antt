@@ -1,0 +1,16 @@
+pub mod Grammar
+pub mod Exact
+pub mod Levels
+pub mod Kinds
+pub mod Productions
+pub mod Syntax
+pub mod Predicts
+pub mod Derives
+pub mod Judged
+pub mod Stands
+pub mod Table
+pub mod Claims
+pub mod Cells
+pub mod Marks
+pub mod Here
+pub mod Laws
