@@ -1,4 +1,4 @@
--- The fault that counts, and that there is one answer.
+-- The fault that counts, and that there are no two answers.
 use Rattle.std.proofs.Common.{◌≡◌, ℕ, suc, ◌<◌, ◌≤◌, Bool, true, false, List, length, min, Option, Some, None, refl, sym, ap, subst, ◌∙◌, arith, ltb, ltb-true, ltb-false}
 use Rattle.as3_lexer.specs.declared.token.Token.{Token}
 use Rattle.as3_parser.specs.declared.start.Start.{Start}

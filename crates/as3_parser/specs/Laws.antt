@@ -1,4 +1,4 @@
--- Tokens have one answer: they are what the text is to be, or one fault counts.
+-- Tokens don't have two answers: that they are what the text is to be, that one fault counts, or another.
 use Rattle.std.specs.Prelude.{◌≡◌, ℕ, List}
 use Rattle.as3_lexer.specs.declared.token.Token.{Token}
 use Rattle.as3_parser.specs.declared.start.Start.{Start}
