@@ -1,6 +1,6 @@
 -- A sentence has one derivation.
 use Rattle.std.proofs.Common.{◌≡◌, ℕ, List, [], ◌∷◌, ◌++◌, Option, Some, refl, sym, ap, subst, inl, inr, ◌∙◌}
-use Rattle.as3_parser.specs.Grammar.{Symbol, Token, Part, Close, Rules, Reads}
+use Rattle.as3_parser.specs.Grammar.{Symbol, Part, Rules, Reads}
 use Rattle.as3_parser.specs.Grammar as grammar
 use Rattle.as3_parser.specs.Predicts.{next, Sets, Dangling, Predicts}
 use Rattle.as3_parser.specs.Stands.{Fits}

@@ -3,9 +3,8 @@ use Rattle.std.proofs.Common.{◌≡◌, ℕ, zero, suc, ◌+◌, ◌<◌, ◌�
 use Rattle.as3_parser.specs.Grammar.{Symbol, Token, Part, Close, Rules}
 use Rattle.as3_parser.specs.Exact.{FaultAt, Exact, wrong}
 use Rattle.as3_parser.specs.Predicts.{next, Sets, Lacks, Dangling, Predicts}
-use Rattle.as3_parser.specs.Levels.{level, Deep, last, DeepAt}
+use Rattle.as3_parser.specs.Levels.{level, Deep, last}
 use Rattle.as3_parser.specs.Levels as levels
-use Rattle.as3_parser.specs.Derives.{Derives}
 use Rattle.as3_parser.specs.Derives as derives
 use Rattle.as3_parser.specs.Judged.{Outcome, Sentence, Syntax, TooDeep, Shallow, Judged, fine, syntax, deep, shift}
 use Rattle.as3_parser.specs.Stands.{Fits, At}

@@ -1,6 +1,6 @@
 -- The steps of the loop keep the levels.
 use Rattle.std.proofs.Common.{◌≡◌, ℕ, suc, ◌≤◌, List, [], ◌∷◌, ◌++◌, Option, Some, refl, ap, subst, inl, inr}
-use Rattle.as3_parser.specs.Grammar.{Symbol, Token, Part, Close, Rules, Reads, Begins}
+use Rattle.as3_parser.specs.Grammar.{Symbol, Token, Part, Close, Rules, Begins}
 use Rattle.as3_parser.specs.Grammar as grammar
 use Rattle.as3_parser.specs.Predicts.{next, Sets, Dangling, Predicts}
 use Rattle.as3_parser.specs.Stands.{Fits}

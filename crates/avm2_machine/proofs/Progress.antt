@@ -41,7 +41,7 @@ use Rattle.avm2_machine.specs.declared.stage.Class.TheVariants as class
 use Rattle.avm2_machine.specs.declared.stage.Slot.{Slot}
 use Rattle.avm2_machine.specs.declared.stage.Stage.{Stage}
 use Rattle.avm2_code.specs.Reading.{Reading, instruction_at}
-use Rattle.avm2_code.proofs.Spelled.{read_stands, standing-bounds}
+use Rattle.avm2_code.proofs.InstructionLaws.{read_stands, standing-bounds}
 use Rattle.avm2_machine.specs.Machine.{Moved, moved, Unmade, IsMade, and_then, makes, opens, with_frame, with_operand, ended, ends, faults, silent, recorded, goes_on, pushes_found, returns_void, supers, construct_super, makes_native, constructs, construct_prop, adds, places, listens, traces, enters_found, class_method, calls_method, calls, makes_class, new_class, writes, writes_slot, writes_public, sets_property, gets_method, gets_property, inits_property, sets_local, act, executes, opens_body, with_turn, enters_body, entered, sends, hears, dispatches, continues, begins_main, makes_main, main_named, main_of, inits_script, loads, steps, step, idle_with, idle, result_of}
 use Rattle.flex_base.specs.Lists.{entry}
 use Rattle.avm2_machine.specs.Names.{Name, string_at, name_at, native_at, class_name, is_name, holder}

@@ -1,6 +1,5 @@
 -- The walk along a path of names.
-use Rattle.std.proofs.Common.{◌≡◌, ℕ, suc, ◌<◌, List, [], ◌∷◌, Option, None, Some, drop, get_or, length, refl, sym, ap, ◌∙◌}
-use Rattle.std.proofs.Math.Seq.{drop-cons}
+use Rattle.std.proofs.Common.{◌≡◌, ℕ, suc, List, [], ◌∷◌, Option, None, Some, drop, refl, sym, ap, ◌∙◌}
 use Rattle.flex_base.specs.declared.value.ObjId.{ObjId}
 use Rattle.avm2_machine.specs.declared.stage.Stage.{Stage}
 use Rattle.avm2_machine.specs.Stage.{held, property, walked}

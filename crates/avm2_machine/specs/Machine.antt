@@ -7,7 +7,7 @@ use Rattle.abc_format.specs.declared.records.Abc.{Abc}
 use Rattle.abc_format.specs.declared.records.InstanceInfo.{InstanceInfo}
 use Rattle.abc_format.specs.declared.records.ScriptInfo.{ScriptInfo}
 use Rattle.abc_format.specs.declared.records.ClassInfo.{ClassInfo}
-use Rattle.flex_base.specs.Value.{same, ref_of, is_object}
+use Rattle.flex_base.specs.Value.{same, is_object}
 use Rattle.flex_base.specs.declared.outcome.MachineFault.{MachineFault}
 use Rattle.flex_base.specs.declared.outcome.MachineFault.TheVariants.{NoName, WrongKind, WrongCount, NotHere}
 use Rattle.flex_base.specs.declared.outcome.Outcome.{Outcome}

@@ -1,5 +1,5 @@
 -- The objects of a play, and what is done with them.
-use Rattle.std.specs.Prelude.{ℕ, zero, suc, ◌+◌, List, [], ◌∷◌, ◌++◌, length, Bool, true, false, if◌then◌else◌, nat_lt, ◌==◌, Option, Some, None, Result, Ok, Err, ◌≡◌, slice_get, codes}
+use Rattle.std.specs.Prelude.{ℕ, suc, ◌+◌, List, [], ◌∷◌, ◌++◌, length, Bool, true, false, if◌then◌else◌, nat_lt, ◌==◌, Option, Some, None, Result, Ok, Err, ◌≡◌, codes}
 use Rattle.std.specs.Str.{bytes_eq}
 use Rattle.flex_base.specs.declared.memory.NoMemory.{NoMemory}
 use Rattle.flex_base.specs.declared.outcome.RunRefusal.{RunRefusal}

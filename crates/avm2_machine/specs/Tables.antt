@@ -1,5 +1,5 @@
 -- What the machine looks up in an ABC.
-use Rattle.std.specs.Prelude.{ℕ, suc, ◌-◌, List, [], ◌∷◌, ◌++◌, length, codes, Bool, true, false, ◌&&◌, ◌||◌, option_map, if◌then◌else◌, ◌==◌, Option, Some, None, slice_get, replicate}
+use Rattle.std.specs.Prelude.{ℕ, ◌-◌, List, [], ◌∷◌, ◌++◌, length, codes, Bool, true, false, ◌&&◌, ◌||◌, option_map, if◌then◌else◌, ◌==◌, Option, Some, None, slice_get, replicate}
 use Rattle.std.specs.Result.{result_ok}
 use Rattle.std.specs.Str.{bytes_eq}
 use Rattle.abc_format.specs.declared.records.Abc.{Abc}

@@ -1,5 +1,5 @@
 -- What stands in an option.
-use Rattle.std.proofs.Common.{◌≡◌, Option, Some}
+use Rattle.std.proofs.Common.{◌≡◌, Some}
 
 -- options that are equal hold what is equal
 pub some_is : {A : Type 0} (a b : A) → Some a ≡ Some b → a ≡ b

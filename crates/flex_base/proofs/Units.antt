@@ -1,6 +1,5 @@
 -- How many units of UTF-16 a text takes.
-use Rattle.std.proofs.Common.{◌≡◌, ℕ, ◌+◌, ◌<◌, ◌≤◌, List, [], ◌∷◌, ◌++◌, length, take, get_or, true, false, inl, inr, refl, sym, ap, subst, ◌∙◌, arith, length-append, map, map-id}
-use Rattle.std.specs.Prelude.{encode_utf8, nat_lt, cond}
+use Rattle.std.proofs.Common.{◌≡◌, ℕ, ◌+◌, ◌<◌, ◌≤◌, List, [], ◌∷◌, ◌++◌, length, take, get_or, inl, inr, sym, ap, ◌∙◌, arith, length-append, map, map-id}
 use Rattle.std.specs.Char.Escape.{encode_utf16}
 use Rattle.std.specs.Char.{len_utf8}
 use Rattle.std.specs.List.{flat_map}

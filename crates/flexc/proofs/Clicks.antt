@@ -31,7 +31,7 @@ use Rattle.script_player.specs.Playing.{Config}
 use Rattle.flexc.specs.Emitted.{encode_all, handler_code, handler_number, text_string, main_text}
 use Rattle.flexc.specs.Meaning.{handle, hear, hear_all, visit, send, reached, clicks, does}
 use Rattle.flex_base.specs.Lists.{entry}
-use Rattle.flexc.specs.World.{MouseEvent, Listener, Component, World, Result, Goes, Halts, bind, note, enter, leave, take, new_component, with_component, outer, listeners, listeners_of}
+use Rattle.flexc.specs.World.{MouseEvent, Listener, Component, World, Result, Goes, bind, note, enter, leave, take, new_component, with_component, outer, listeners, listeners_of}
 use Rattle.flexc.proofs.Decoded.{Stands, size, code_stands}
 use Rattle.flexc.proofs.Encodable.{handler_encodable}
 use Rattle.flexc.proofs.Handlers.{handlers, IsHandler, handler_body_of, handler_body_is, handler_hears, stands_at, stands_within}

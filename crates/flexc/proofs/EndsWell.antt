@@ -5,7 +5,6 @@ use Rattle.std.specs.List.{list_any}
 use Rattle.std.proofs.lemmas.Bool.{lt-ltb}
 use Rattle.flex_base.specs.Value.{same}
 use Rattle.flex_base.specs.declared.outcome.MachineFault.{MachineFault}
-use Rattle.flex_base.specs.declared.outcome.Outcome.{Outcome}
 use Rattle.flex_base.specs.declared.outcome.Outcome.TheVariants.{Stopped, TurnsSpent, Fault}
 use Rattle.flex_base.specs.declared.outcome.Stop.TheVariants.{Depth, Cells, UnknownState}
 use Rattle.flex_base.specs.declared.record.TraceItem.TheVariants.{Made, Written, Sent, Heard, User, Missed}

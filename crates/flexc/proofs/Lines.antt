@@ -3,12 +3,11 @@ use Rattle.flex_base.proofs.TextLaws.{utf8_not}
 use Rattle.std.proofs.Common.{◌≡◌, ◌≢◌, ℕ, zero, suc, ◌+◌, ◌<◌, List, [], ◌∷◌, ◌++◌, length, take, drop, get_or, ◌-◌, length-drop, Bool, true, false, Option, None, Some, Result, Ok, Err, Bor, MatchOption, refl, sym, ap, ◌∙◌, arith, append_assoc, add-one}
 use Rattle.std.specs.Prelude.{cond, nat_lt, if◌then◌else◌, ◌==◌}
 use Rattle.std.specs.List.{position, position_or_len}
-use Rattle.std.specs.Str.{is_utf8, IsUtf8}
 use Rattle.std.proofs.lemmas.List.{append-nil, take_all}
 use Rattle.std.proofs.lemmas.List.Quantifiers.{position-Some}
 use Rattle.std.proofs.lemmas.List.Sums.{fails_before_first}
 use Rattle.std.proofs.lemmas.Bool.{ltb-false, eqb-true, eq-eqb}
-use Rattle.std.proofs.lemmas.Str.{IsUtf8-from_is_utf8, is_utf8-from_IsUtf8}
+use Rattle.std.proofs.lemmas.Str.{is_utf8-from_IsUtf8}
 use Rattle.flex_base.specs.declared.event.UserEvent.{UserEvent}
 use Rattle.flexc.specs.declared.script.ScriptRefusal.{ScriptRefusal}
 use Rattle.flexc.specs.declared.script.ScriptRefusal.TheVariants as refusal

@@ -21,7 +21,7 @@ use Rattle.avm2_machine.specs.declared.stage.Slot.{Slot}
 use Rattle.avm2_machine.specs.declared.stage.Object.{Object}
 use Rattle.avm2_machine.specs.declared.stage.Stage.{Stage}
 use Rattle.flex_base.specs.Events.{outward, ancestors, hearing}
-use Rattle.flex_base.specs.Value.{ref_of, is_object}
+use Rattle.flex_base.specs.Value.{is_object}
 use Rattle.avm2_machine.specs.Machine.{shown as stage_shown, reached as stage_reached}
 use Rattle.avm2_machine.specs.Stage.{object_at, property, held as slot_held, walked as stage_walked, slot_of as stage_slot_of, slot_named, next_object, with_object, with_value as with_slot_value, with_property, with_last as with_stage_last, with_parent as with_stage_parent, with_child as with_stage_child, with_listener as with_stage_listener, parent as stage_parent, parent_of as stage_parent_of, outer as stage_outer, listeners as stage_listeners, listeners_of as stage_listeners_of}
 use Rattle.script_player.specs.Playing.{Config}

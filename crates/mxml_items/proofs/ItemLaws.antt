@@ -1,5 +1,5 @@
 -- Items: no two forms begin alike, and each is read as far as it goes.
-use Rattle.std.proofs.Common.{◌≡◌, ◌≢◌, ◌⊎◌, ℕ, suc, ◌+◌, ◌-◌, ◌<◌, ◌≤◌, List, [], ◌∷◌, ◌++◌, length, map, Option, None, Some, Result, Ok, Err, MatchOption, IfOk, Bor, Bool, true, false, cond, inl, inr, refl, ap, sym, ◌∙◌, subst, true≢false, eqb, not, append_assoc, arith}
+use Rattle.std.proofs.Common.{◌≡◌, ◌≢◌, ◌⊎◌, ℕ, suc, ◌+◌, ◌-◌, ◌≤◌, List, [], ◌∷◌, ◌++◌, length, map, Option, None, Some, Result, Ok, Err, MatchOption, IfOk, Bor, Bool, true, false, cond, inl, inr, refl, ap, sym, ◌∙◌, subst, true≢false, eqb, not, append_assoc, arith}
 use Rattle.std.specs.Prelude.{codes}
 use Rattle.std.proofs.lemmas.List.{length-append}
 use Rattle.mxml_items.specs.Runs.{is_in_name}

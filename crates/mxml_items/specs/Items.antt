@@ -1,5 +1,5 @@
 -- The items that the text of a document is a list of: which bytes each form has.
-use Rattle.std.specs.Prelude.{◌≡◌, ◌⊎◌, ℕ, ◌+◌, ◌≤◌, ◌<◌, Bool, List, [], ◌∷◌, ◌++◌, length, if◌then◌else◌, IsTrue, codes}
+use Rattle.std.specs.Prelude.{◌≡◌, ◌⊎◌, ℕ, ◌+◌, ◌≤◌, Bool, List, [], ◌∷◌, ◌++◌, length, if◌then◌else◌, IsTrue, codes}
 use Rattle.std.specs.List.{list_all}
 use Rattle.mxml_items.specs.Names.{IsName}
 use Rattle.mxml_items.specs.Pieces.{Piece, ArePieces, is_white, is_in_value, is_in_text}

@@ -1,7 +1,7 @@
 -- What a file that is played says is determined by its bytes.
 use Rattle.flex_base.proofs.OptionLaws.{some_is}
 use Rattle.flex_base.proofs.ResultLaws.{ok_is}
-use Rattle.std.proofs.Common.{◌≡◌, ℕ, List, Some, Result, Ok, sym, ap, ◌∙◌, subst}
+use Rattle.std.proofs.Common.{◌≡◌, ℕ, List, Some, Ok, sym, ap, ◌∙◌, subst}
 use Rattle.flex_base.specs.declared.event.UserEvent.{UserEvent}
 use Rattle.script_player.specs.AbcReader.{read_abc}
 use Rattle.script_player.specs.Playable.{IsPlayable}

@@ -1,18 +1,15 @@
 -- Tags, programs and pairs are read, and what is read is there.
 use Rattle.flex_base.proofs.OptionLaws.{some_is}
 use Rattle.flex_base.proofs.ResultLaws.{ok_is}
-use Rattle.std.proofs.Common.{◌≡◌, ℕ, zero, suc, ◌+◌, ◌*◌, ◌/◌, ◌%◌, ◌^◌, ◌<◌, ◌≤◌, Bool, true, false, List, [], ◌∷◌, ◌++◌, length, Option, Some, None, Result, Ok, Err, refl, sym, ap, ap₂, subst, ◌∙◌, ◌⊎◌, inl, inr, arith, append_assoc, length-append}
-use Rattle.std.specs.Prelude.{if◌then◌else◌, ◌==◌, ◌≢◌, All}
-use Rattle.std.proofs.lemmas.Bool.{eq-eqb, ne_eqb, eqb-true, eqb-false}
-use Rattle.std.proofs.lemmas.List.{append-nil}
+use Rattle.std.proofs.Common.{◌≡◌, ℕ, zero, suc, ◌+◌, ◌*◌, ◌/◌, ◌%◌, ◌^◌, ◌<◌, Bool, true, false, List, [], ◌∷◌, ◌++◌, length, Option, Some, None, Ok, refl, sym, ap, ap₂, subst, ◌∙◌, arith, append_assoc}
+use Rattle.std.specs.Prelude.{if◌then◌else◌, ◌==◌}
+use Rattle.std.proofs.lemmas.Bool.{ne_eqb, eqb-true, eqb-false}
 use Rattle.byteorder.specs.Endian.{little_bytes}
-use Rattle.byteorder.specs.Numbers.{length-bytes_low_first}
 use Rattle.flex_base.specs.Split.{Split, Each}
 use Rattle.swf_tags.specs.Spelling.{zero_ended}
 use Rattle.swf_tags.specs.File.{AreBytes, Part, Pair, IsHeader, IsPart, IsName, IsDoAbc, IsPair, IsSymbolClass, first_of, main_of, main_in, header_bytes, size_limit}
 use Rattle.swf_tags.specs.Fields.{Front, split, number_of, number, name}
 use Rattle.swf_tags.specs.Reading.{Header, long_of, header_of, next_header, part_of, behind_header, next_part, behind_name, behind_flags, read_program, pair_named, pair_of, next_pair, and_then, read_pairs, read_symbols}
-use Rattle.swf_tags.specs.declared.types.Fault.{Fault}
 use Rattle.swf_tags.proofs.FieldLaws.{split-front, split-gives, number-front, number-gives, name-front, name-gives, append-bytes}
 
 -- one part and another behind it

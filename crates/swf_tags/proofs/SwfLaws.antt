@@ -1,7 +1,7 @@
 -- The laws of reading and writing SWF files.
-use Rattle.std.proofs.Common.{◌≡◌, ℕ, List, Option, Some, None, Result, Ok, Err, refl, ap, ◌⊎◌, inl, inr}
+use Rattle.std.proofs.Common.{◌≡◌, Some, None, Result, Ok, Err, refl, ap, ◌⊎◌, inl, inr}
 use Rattle.swf_tags.specs.Spelling.{swf_bytes}
-use Rattle.swf_tags.specs.File.{AreBytes, IsSwf, written_tags}
+use Rattle.swf_tags.specs.File.{written_tags}
 use Rattle.swf_tags.specs.Reading.{read_swf, swf_fault, fault_of}
 use Rattle.swf_tags.specs.SwfLaws.{SwfIsRead, ReadIsSwf, SwfOrFault, SwfIsWritten, SwfIsReadBack, IsSome}
 use Rattle.swf_tags.specs.declared.types.Fault.{Fault}

@@ -1,8 +1,7 @@
 -- The tags up to End are read, and what is read is there.
-use Rattle.flex_base.proofs.OptionLaws.{some_is}
 use Rattle.flex_base.proofs.ResultLaws.{ok_is}
-use Rattle.std.proofs.Common.{◌≡◌, ℕ, zero, suc, ◌+◌, ◌<◌, ◌≤◌, Bool, true, false, List, [], ◌∷◌, ◌++◌, length, Option, Some, None, Result, Ok, Err, refl, sym, ap, ap₂, subst, ◌∙◌, ◌⊎◌, inl, inr, arith, append_assoc, length-append}
-use Rattle.std.specs.Prelude.{if◌then◌else◌, ◌==◌, ◌≢◌, All}
+use Rattle.std.proofs.Common.{◌≡◌, ℕ, zero, suc, ◌+◌, ◌≤◌, Bool, true, false, List, [], ◌∷◌, ◌++◌, length, Option, Some, None, Result, Ok, Err, refl, sym, ap, ap₂, subst, ◌∙◌, inl, inr, arith, append_assoc}
+use Rattle.std.specs.Prelude.{if◌then◌else◌, ◌==◌, ◌≢◌}
 use Rattle.std.specs.Option.{is_none}
 use Rattle.std.proofs.lemmas.Bool.{eq-eqb, ne_eqb, eqb-true, eqb-false, cases_eq}
 use Rattle.flex_base.specs.Split.{Split, Each}
@@ -15,7 +14,7 @@ use Rattle.swf_tags.specs.declared.types.Swf.{Swf}
 use Rattle.swf_tags.specs.declared.types.SwfReason.TheVariants as reason
 use Rattle.swf_tags.specs.declared.types.Tag.{Tag}
 use Rattle.swf_tags.proofs.FieldLaws.{append-bytes}
-use Rattle.swf_tags.proofs.PartLaws.{part-front, part-gives, program-read, program-gives, symbols-read, symbols-give, SymbolsStand, first_of-first_of, first_of-none}
+use Rattle.swf_tags.proofs.PartLaws.{part-front, part-gives, program-read, program-gives, symbols-read, symbols-give, first_of-first_of, first_of-none}
 
 -- the program is known already, or stands once
 abbrev pub ProgramComes : Option (List ℕ) → List ℕ → List (List ℕ) → Type 0

@@ -1,15 +1,13 @@
 -- A SWF file is read, and what is read is a SWF file.
 use Rattle.flex_base.proofs.OptionLaws.{some_is}
 use Rattle.flex_base.proofs.ResultLaws.{ok_is}
-use Rattle.std.proofs.Common.{◌≡◌, ℕ, zero, suc, ◌+◌, ◌*◌, ◌/◌, ◌^◌, ◌<◌, ◌≤◌, Bool, true, false, List, [], ◌∷◌, ◌++◌, length, take, drop, Option, Some, None, Result, Ok, Err, refl, sym, ap, ap₂, subst, ◌∙◌, ◌⊎◌, inl, inr, arith, append_assoc, length-append, length-drop}
-use Rattle.std.specs.Prelude.{if◌then◌else◌, ◌==◌, ◌≢◌, ◌&&◌, ◌||◌, ◌↔◌, All, codes}
-use Rattle.std.specs.Str.{IsUtf8}
+use Rattle.std.proofs.Common.{◌≡◌, ℕ, ◌+◌, ◌^◌, ◌<◌, ◌≤◌, Bool, true, false, List, [], ◌∷◌, ◌++◌, length, take, drop, Option, Some, None, Result, Ok, Err, refl, sym, ap, subst, ◌∙◌, arith, append_assoc, length-append, length-drop}
+use Rattle.std.specs.Prelude.{if◌then◌else◌, ◌==◌, ◌&&◌, ◌||◌}
 use Rattle.std.proofs.lemmas.Bool.{eq-eqb, eqb-true, and_parts}
 use Rattle.std.proofs.lemmas.List.{take-append-drop, length-take-le}
-use Rattle.std.proofs.lemmas.List.Elements.{All-head, All-tail}
+use Rattle.std.proofs.lemmas.List.Elements.{All-tail}
 use Rattle.byteorder.specs.Endian.{little_bytes}
-use Rattle.flex_base.specs.Split.{Split, Each}
-use Rattle.swf_tags.specs.Spelling.{end_tag, symbol_class, do_abc}
+use Rattle.flex_base.specs.Split.{Each}
 use Rattle.swf_tags.specs.File.{AreBytes, Part, IsPart, IsHeader, IsRectangle, IsSwf, header_bytes, rectangle_size, tags_at}
 use Rattle.swf_tags.specs.Fields.{Front, split, number}
 use Rattle.swf_tags.specs.Reading.{Head, before_tags, frame, behind_length, behind_signature, fitting, read_head, of_length, content, fails, nothing, read_tags, read_swf}
@@ -18,7 +16,7 @@ use Rattle.swf_tags.specs.declared.types.Swf.{Swf}
 use Rattle.swf_tags.specs.declared.types.Tag.{Tag}
 use Rattle.swf_tags.specs.declared.types.SwfReason.TheVariants as reason
 use Rattle.swf_tags.proofs.FieldLaws.{split-front, split-gives, number-front, number-gives, append-bytes}
-use Rattle.swf_tags.proofs.TagLaws.{TagsSay, tags-read, tags-give}
+use Rattle.swf_tags.proofs.TagLaws.{tags-read, tags-give}
 
 header-size : (part : Part) (bytes : List ℕ) → IsHeader part bytes → 0 < length bytes
 header-size part bytes w = by part.long (ap length w.is)

@@ -1,5 +1,5 @@
 -- The written bytes are a SWF file.
-use Rattle.std.proofs.Common.{◌≡◌, ℕ, ◌+◌, ◌*◌, ◌^◌, ◌<◌, ◌≤◌, Bool, true, false, List, [], ◌∷◌, ◌++◌, length, take, drop, refl, sym, ap, subst, ◌∙◌, inl, inr, arith, append_assoc, length-append}
+use Rattle.std.proofs.Common.{◌≡◌, ℕ, ◌+◌, ◌*◌, ◌^◌, ◌<◌, ◌≤◌, true, false, List, [], ◌∷◌, ◌++◌, length, refl, sym, ap, ◌∙◌, inl, inr, arith, append_assoc, length-append}
 use Rattle.std.specs.Prelude.{◌≢◌, All, codes, nat_le, if◌then◌else◌}
 use Rattle.std.specs.Str.{IsUtf8}
 use Rattle.std.proofs.lemmas.Bool.{lt-ltb, le-ltb, lt-leb, le-leb, cases_lt}
@@ -9,7 +9,7 @@ use Rattle.byteorder.specs.Endian.{little_bytes}
 use Rattle.byteorder.specs.Numbers.{length-bytes_low_first}
 use Rattle.flex_base.specs.Split.{Each}
 use Rattle.swf_tags.specs.Spelling.{end_tag, show_frame, set_background_color, file_attributes, symbol_class, do_abc, long_header, header, tag, zero_ended, frame_header, abc_body, symbol_body, do_abc_tag, tags, content, swf_bytes}
-use Rattle.swf_tags.specs.File.{Part, IsHeader, IsPart, IsName, IsDoAbc, IsPair, IsSymbolClass, EndsOnce, IsSwf, written_parts, written_tags}
+use Rattle.swf_tags.specs.File.{IsHeader, IsPart, IsName, IsDoAbc, IsPair, IsSymbolClass, EndsOnce, written_parts}
 use Rattle.swf_tags.specs.SwfLaws.{SwfIsWritten}
 use Rattle.swf_tags.proofs.PartLaws.{both}
 

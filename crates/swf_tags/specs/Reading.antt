@@ -1,7 +1,7 @@
 -- What bytes say as a SWF file, or the first place at which they are none and the reason: the header comes first, then the tags in
 -- order up to End, and the length of the file last.
 use Rattle.std.specs.Prelude.{◌≡◌, ℕ, zero, suc, ◌+◌, ◌/◌, ◌%◌, ◌&&◌, ◌||◌, Bool, true, false, List, [], ◌∷◌, ◌++◌, length, if◌then◌else◌, ◌==◌, Option, Some, None, Result, Ok, Err, MatchResult}
-use Rattle.std.specs.Option.{option_copied, is_none}
+use Rattle.std.specs.Option.{is_none}
 use Rattle.swf_tags.specs.Spelling.{end_tag, symbol_class, do_abc}
 use Rattle.swf_tags.specs.File.{Part, Pair, part_size, tag_at, first_of, main_of, rectangle_size}
 use Rattle.swf_tags.specs.Fields.{Front, split, number, name}

@@ -1,5 +1,5 @@
 -- What holds of the reading and the writing of SWF files.
-use Rattle.std.specs.Prelude.{◌≡◌, ◌≢◌, ◌⊎◌, ℕ, ◌+◌, ◌≤◌, List, length, All, Option, Some, None, Ok}
+use Rattle.std.specs.Prelude.{◌≡◌, ◌≢◌, ◌⊎◌, ℕ, ◌+◌, ◌≤◌, List, length, All, Some, None, Ok}
 use Rattle.std.specs.Str.{IsUtf8}
 use Rattle.swf_tags.specs.Spelling.{swf_bytes}
 use Rattle.swf_tags.specs.File.{AreBytes, IsSwf, written_tags}
