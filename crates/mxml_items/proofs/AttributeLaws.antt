@@ -15,7 +15,7 @@ use Rattle.mxml_items.proofs.NameLaws.{name_passes}
 use Rattle.mxml_items.proofs.References.{either}
 use Rattle.mxml_items.proofs.PieceLaws.{same_pieces, quote_ends}
 
-no_ampersand : (quote : ℕ) → (quote ≡ 34) ⊎ (quote ≡ 39) → quote ≢ 38
+pub no_ampersand : (quote : ℕ) → (quote ≡ 34) ⊎ (quote ≡ 39) → quote ≢ 38
 no_ampersand quote (inl e) same = omega (arith, e, same)
 no_ampersand quote (inr e) same = omega (arith, e, same)
 

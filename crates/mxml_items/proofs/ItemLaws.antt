@@ -47,7 +47,7 @@ enclosed_longest opening ending c d x r y s h k same = by_order (order (length y
         cut (b ∷ front) x y same = cut front x y (ap tail same)
 
 -- the number of a form, and that of the form whose items may begin a text
-abbrev form : Item → ℕ
+abbrev pub form : Item → ℕ
 form Instruction = 1
 form Comment = 2
 form (CData content) = 3
@@ -84,7 +84,7 @@ form_of_words (p.Written b ∷ pieces) content rest are some =
     ap (λ t. code (t ++ rest)) (are.is ∙ ap (λ t. t ++ are.back) are.first.0) ∙ words_code (eqb b 60) _ are.first.1
 form_of_words (p.Referred c ∷ pieces) content rest are some = ap (λ t. code (t ++ rest)) (are.is ∙ ap (λ t. t ++ are.back) (shape c are.front are.first).is)
 
-form_by_code : (it : Item) (at : ℕ) (x rest : List ℕ) → IsItem it at x → code (x ++ rest) ≡ form it
+pub form_by_code : (it : Item) (at : ℕ) (x rest : List ℕ) → IsItem it at x → code (x ++ rest) ≡ form it
 form_by_code Instruction at x rest h = ap (λ t. code (t ++ rest)) h.1.is
 form_by_code Comment at x rest h = ap (λ t. code (t ++ rest)) h.1.is
 form_by_code (CData content) at x rest h = ap (λ t. code (t ++ rest)) h.is

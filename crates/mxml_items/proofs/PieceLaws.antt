@@ -10,7 +10,7 @@ use Rattle.mxml_items.specs.Pieces.{Piece, Written, Referred, IsPiece, ArePieces
 use Rattle.mxml_items.proofs.RunLaws.{both, and_true, head}
 use Rattle.mxml_items.proofs.References.{shape, same_reference}
 
-each_join : (test : ℕ → Bool) (ps qs : List Piece) (a b : List ℕ) → ArePieces test ps a → ArePieces test qs b → ArePieces test (ps ++ qs) (a ++ b)
+pub each_join : (test : ℕ → Bool) (ps qs : List Piece) (a b : List ℕ) → ArePieces test ps a → ArePieces test qs b → ArePieces test (ps ++ qs) (a ++ b)
 each_join test [] qs a b h k = subst (λ x. ArePieces test qs (x ++ b)) (sym h) k
 each_join test (p ∷ ps) qs a b h k =
     record {
@@ -120,7 +120,7 @@ plain_is_all test text rest h none =
     no_piece (Referred c) bytes others is p = none c others (record { bytes = bytes; is = is; is_reference = p })
 
 -- of one text two pieces are the same bytes
-same_piece : (test : ℕ → Bool) (p q : Piece) (a rest b others : List ℕ) → IsPiece test p a → IsPiece test q b → a ++ rest ≡ b ++ others → a ≡ b
+pub same_piece : (test : ℕ → Bool) (p q : Piece) (a rest b others : List ℕ) → IsPiece test p a → IsPiece test q b → a ++ rest ≡ b ++ others → a ≡ b
 same_piece test (Written m) (Written n) a rest b others h k same =
     h.0 ∙ ap (λ x. x ∷ []) (ap (head 0) (sym (ap (λ x. x ++ rest) h.0) ∙ same ∙ ap (λ x. x ++ others) k.0)) ∙ sym k.0
 same_piece test (Written m) (Referred d) a rest b others h k same =

@@ -84,7 +84,7 @@ closing_rest false false r s same = ap tail same
 closing_rest true false r s same = (let e : 47 ≡ 62 = ap (head 0) same in absurd (omega (arith, e)))
 closing_rest false true r s same = (let e : 62 ≡ 47 = ap (head 0) same in absurd (omega (arith, e)))
 
-no_attribute_at_end : (gap : List ℕ) (empty : Bool) (rest : List ℕ) → IsWhite gap → HasNoAttribute (gap ++ (closing empty ++ rest))
+pub no_attribute_at_end : (gap : List ℕ) (empty : Bool) (rest : List ℕ) → IsWhite gap → HasNoAttribute (gap ++ (closing empty ++ rest))
 no_attribute_at_end gap empty rest white =
     no_attribute_name (gap ++ (closing empty ++ rest)) gap (closing empty ++ rest) (record { is = refl; pass = white; stops = closing_stops is_white refl refl empty rest }) none
   where

@@ -15,4 +15,5 @@ mod tests;
 
 pub use item::{Attribute, Item};
 pub use items::{Items, Placed, read_items};
+pub use pieces::reference;
 pub use place::place_of;

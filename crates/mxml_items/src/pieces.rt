@@ -27,7 +27,9 @@ fn plain(quote: Option<u8>, text: &[u8]) -> &[u8]
     }
 }
 
-// The character that the reference at the front of a text names, and what stands behind it.
+/// The character that the reference at the front of a text names, and what stands behind it:
+/// `&lt;`, `&gt;`, `&amp;`, `&quot;`, `&apos;`, or a character other than 0 by its number, decimal or
+/// hexadecimal. XML 1.0, 4.1 and 4.6.
 pub fn reference(text: &[u8]) -> Option<(u32, &[u8])>
     ensures { MatchOption result (HasNoReference text.now) (λ r. BeginsWithReference text.now r.0 r.1.now) }
 {

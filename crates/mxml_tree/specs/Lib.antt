@@ -1,0 +1,12 @@
+pub mod Values
+pub mod Readable
+pub mod Tree
+pub mod Namespaces
+pub mod CodeNames
+pub mod Faults
+pub mod Texts
+pub mod IsTree
+pub mod Laws
+pub mod Opened
+pub mod Building
+pub mod Reading
