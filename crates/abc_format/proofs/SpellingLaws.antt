@@ -13,7 +13,7 @@ use Rattle.abc_format.specs.declared.records.Multiname.TheVariants as multiname
 use Rattle.abc_format.specs.declared.records.TraitKind.TheVariants as trait_kind
 use Rattle.abc_format.specs.Numbers.{u30_bytes, int_bytes, u32_at}
 use Rattle.abc_format.specs.Spelling.{counted, table, table_count, where_flag, string_bytes_of, namespace_kind_byte, namespace_bytes, multiname_bytes, pool_bytes, option_bytes, method_bytes, item_bytes, metadata_bytes, value_bytes, trait_parts, trait_bytes, instance_bytes, class_bytes, script_bytes, exception_bytes, body_bytes, abc_bytes}
-use Rattle.abc_format.specs.Grammar.{IsSpelledBy, IsU32, IsU30, IsS32, Exactly, WhereFlag, Counted, IsTableCount, Table, IsString, IsNamespace, IsMultiname, IsPool, IsOption, AreParamNames, IsMethod, IsItem, IsMetadata, IsVariable, IsTraitKind, IsTrait, IsInstance, IsClass, IsScript, IsException, IsBody, IsAbc}
+use Rattle.abc_format.specs.Grammar.{IsSpelledBy, IsU32, IsU30, IsS32, Exactly, WhereFlag, Counted, IsTableCount, Table, IsDouble, IsString, IsNamespace, IsMultiname, IsPool, IsOption, AreParamNames, IsMethod, IsItem, IsMetadata, IsVariable, IsTraitKind, IsTrait, IsInstance, IsClass, IsScript, IsException, IsBody, IsAbc}
 use Rattle.abc_format.proofs.NumberLaws.{u32_at-u30_bytes, u32_at-int_bytes}
 use Rattle.abc_format.proofs.PartLaws.{joined, variable-joined, pool-joined, method-joined, trait-joined, instance-joined, body-joined, abc-joined}
 
@@ -78,8 +78,8 @@ flag-respelled : (flags flag : ℕ) (absent : Type 0) (P : List ℕ → Type 0) 
     → WhereFlag flags flag absent P (where_flag flags flag written)
 flag-respelled flags flag = choice-respelled (bit_and flags flag == 0)
 
-double-respelled : Respells (λ double. Exactly (little_bytes 8 double)) (little_bytes 8)
-double-respelled double bytes w = refl
+double-respelled : Respells IsDouble (little_bytes 8)
+double-respelled double bytes w = record { fits = w.fits; is = refl }
 
 string-respelled : Respells IsString string_bytes_of
 string-respelled text bytes w = record { valid = w.valid; sized = joined (u30_bytes (length text)) text (u30-respelled w.sized.first) refl }
@@ -121,7 +121,7 @@ pool-respelled p bytes w =
     pool-joined p
     (table-respelled IsS32 int_bytes int-respelled p.integers w.front w.first)
     (table-respelled IsU32 u30_bytes u32-respelled p.unsigned_integers r1.front r1.first)
-    (table-respelled (λ double. Exactly (little_bytes 8 double)) (little_bytes 8) double-respelled p.doubles r2.front r2.first)
+    (table-respelled IsDouble (little_bytes 8) double-respelled p.doubles r2.front r2.first)
     (table-respelled IsString string_bytes_of string-respelled p.strings r3.front r3.first)
     (table-respelled IsNamespace namespace_bytes namespace-respelled p.namespaces r4.front r4.first)
     (table-respelled (Counted IsU30) (counted u30_bytes) (counted-respelled IsU30 u30_bytes number-respelled) p.namespace_sets r5.front r5.first)

@@ -16,7 +16,7 @@ module _ (g : Rules) (start : ℕ) (pick : ℕ → ℕ → Option ℕ) (c : Sets
   fault_of (wrong k f) = f
 
   -- a part is replaced
-  judge_use : (n : ℕ) (s : List Symbol) (j : ℕ) (r : List Symbol) (w : List ℕ) (a : Outcome) → Fits c (Part n ∷ s) → Lacks x.token s → pick n (next w) ≡ Some j → g n j ≡ Some r → Judged g x m (r ++ s) w a → Judged g x m (Part n ∷ s) w a
+  pub judge_use : (n : ℕ) (s : List Symbol) (j : ℕ) (r : List Symbol) (w : List ℕ) (a : Outcome) → Fits c (Part n ∷ s) → Lacks x.token s → pick n (next w) ≡ Some j → g n j ≡ Some r → Judged g x m (r ++ s) w a → Judged g x m (Part n ∷ s) w a
   judge_use n s j r w a fits lacks is rule (fine cs d h) =
       fine (j ∷ cs) (derives.takes j r rule (full_near g start pick c x p m n j r (next w) is rule) d)
       (λ i lt q. h i lt (deep_use g start pick c x p m n s j r fits (ap (λ y. pick n y) (next_take g start pick c x p w i lt) ∙ is) rule q))
@@ -31,7 +31,7 @@ module _ (g : Rules) (start : ℕ) (pick : ℕ → ℕ → Option ℕ) (c : Sets
       })
 
   -- a mark is passed over
-  judge_act : (s : List Symbol) (w : List ℕ) (a : Outcome) → Judged g x m s w a → Judged g x m (Close ∷ s) w a
+  pub judge_act : (s : List Symbol) (w : List ℕ) (a : Outcome) → Judged g x m s w a → Judged g x m (Close ∷ s) w a
   judge_act s w a (fine cs d h) = fine cs (derives.passes d) (λ i lt q. h i lt (deep_act g start pick c x p m s q))
   judge_act s w a (syntax k f h) = syntax k (fault_of (exact_act g start pick c x p s w (Some k) (wrong k f))) (λ i lt q. h i lt (deep_act g start pick c x p m s q))
   judge_act s w a (deep k f) = deep k (record { within = f.within; opens = levels.passes f.opens; first = λ i lt q. f.first i lt (deep_act g start pick c x p m s q) })
@@ -46,7 +46,7 @@ module _ (g : Rules) (start : ℕ) (pick : ℕ → ℕ → Option ℕ) (c : Sets
   read_deep t s [] k lt d = absurd (omega arith)
   read_deep t s (u ∷ w) k lt d = levels.reads d
 
-  judge_read : (t : ℕ) (s : List Symbol) (w : List ℕ) (a : Outcome) → level s < m → Judged g x m s w a → Judged g x m (Token t ∷ s) (t ∷ w) (shift 1 a)
+  pub judge_read : (t : ℕ) (s : List Symbol) (w : List ℕ) (a : Outcome) → level s < m → Judged g x m s w a → Judged g x m (Token t ∷ s) (t ∷ w) (shift 1 a)
   judge_read t s w a low (fine cs d h) = fine cs (derives.reads d) (not_before t s w (length w) low (omega arith) h)
   judge_read t s w a low (syntax k f h) =
       let e : suc k ≡ 1 + k = omega arith in
@@ -59,15 +59,15 @@ module _ (g : Rules) (start : ℕ) (pick : ℕ → ℕ → Option ℕ) (c : Sets
       (deep (suc k) (record { within = omega arith; opens = read_deep t s w k lt f.opens; first = not_before t s w k low (omega arith) f.first }))
 
   -- a token is read where m levels are open
-  judge_deep : (t : ℕ) (s : List Symbol) (w : List ℕ) → m ≤ level s → Judged g x m (Token t ∷ s) (t ∷ w) (TooDeep 0)
+  pub judge_deep : (t : ℕ) (s : List Symbol) (w : List ℕ) → m ≤ level s → Judged g x m (Token t ∷ s) (t ∷ w) (TooDeep 0)
   judge_deep t s w high = deep 0 (record { within = omega arith; opens = last high; first = λ i lt q. absurd (omega (arith, lt)) })
 
   -- a fault here
-  judge_here : (s : List Symbol) (w : List ℕ) → Exact g s w (Some 0) → Judged g x m s w (Syntax 0)
+  pub judge_here : (s : List Symbol) (w : List ℕ) → Exact g s w (Some 0) → Judged g x m s w (Syntax 0)
   judge_here s w e = syntax 0 (fault_of e) (λ i lt q. absurd (omega (arith, lt)))
 
   -- the end
-  judge_end : Judged g x m [] [] Sentence
+  pub judge_end : Judged g x m [] [] Sentence
   judge_end = fine [] derives.done (λ i lt q. absurd (omega (arith, lt)))
 
   shift_0 : (a : Outcome) → shift 0 a ≡ a

@@ -12,3 +12,17 @@ pub mod Prefixes
 pub mod Loop
 pub mod Ended
 pub mod Verdicts
+pub mod Total
+pub mod Ahead
+pub mod NamedKinds
+pub mod Reach
+pub mod PathSteps
+pub mod ExpressionSteps
+pub mod TokenCuts
+pub mod Sentences
+pub mod MetadataSteps
+pub mod SimpleSteps
+pub mod StatementSteps
+pub mod HandlerSteps
+pub mod MemberSteps
+pub mod ClassSteps

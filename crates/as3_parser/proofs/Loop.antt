@@ -100,7 +100,7 @@ lighter es n a s lt null = go (nulls es a) ((entry es n).null) refl refl where
   go false true p q = let e = heft_solid es a s p in omega arith
   go false false p q = let e = heft_solid es a s p in omega arith
 
-took_lighter : (n j : ℕ) (r s : List Symbol) → rules table n j ≡ Some r → heft table (r ++ s) < heft table (Part n ∷ s)
+pub took_lighter : (n j : ℕ) (r s : List Symbol) → rules table n j ≡ Some r → heft table (r ++ s) < heft table (Part n ∷ s)
 took_lighter n j r s is =
     let z = side_listed (nth (entry table n).sides j) r is in
     let k = sound table dangling fits n j z.0 z.1 in
@@ -192,14 +192,14 @@ deep_of start ts i j = go (TooDeep i) i refl j where
   go a k e (syntax j f h) = absurd (cc)
   go a k e (deep j f) = let same : j ≡ k = cc in subst (λ y. IsDeep start ts y) same f
 
-exact_whole : (m start : ℕ) (ts : List ℕ) → Predicts the_rules start (pick table) (sets table) dangling → Judged the_rules dangling m (Part start ∷ []) ts Sentence → Exact the_rules (Part start ∷ []) ts None
+pub exact_whole : (m start : ℕ) (ts : List ℕ) → Predicts the_rules start (pick table) (sets table) dangling → Judged the_rules dangling m (Part start ∷ []) ts Sentence → Exact the_rules (Part start ∷ []) ts None
 exact_whole m start ts p j = go Sentence refl j where
   go : (a : Outcome) → a ≡ Sentence → Judged the_rules dangling m (Part start ∷ []) ts a → Exact the_rules (Part start ∷ []) ts None
   go a e (fine cs d h) = right (derives_reads the_rules start (pick table) (sets table) dangling p d)
   go a e (syntax j f h) = absurd (cc)
   go a e (deep j f) = absurd (cc)
 
-shallow_whole : (m start : ℕ) (ts : List ℕ) → Judged the_rules dangling m (Part start ∷ []) ts Sentence → (d : ℕ) → ¬ (DeepAt the_rules dangling m (Part start ∷ []) ts d)
+pub shallow_whole : (m start : ℕ) (ts : List ℕ) → Judged the_rules dangling m (Part start ∷ []) ts Sentence → (d : ℕ) → ¬ (DeepAt the_rules dangling m (Part start ∷ []) ts d)
 shallow_whole m start ts j d at = go Sentence refl j where
   go : (a : Outcome) → a ≡ Sentence → Judged the_rules dangling m (Part start ∷ []) ts a → ⊥
   go a e (fine cs q h) = h d at.within at.opens

@@ -98,13 +98,13 @@ nth_inside (t ∷ ss) zero s h = omega arith
 nth_inside (t ∷ ss) (suc k) s h = let e = nth_inside ss k s h in omega arith
 
 -- a right side that was picked
-record Chosen (n i : ℕ) : Type 0 where
-  side : Side
-  is : nth (entry table n).sides i ≡ Some side
-  at : nth (all_sides table) (base table n + i) ≡ Some side
-  inside : base table n + i < length (all_sides table)
+pub record Chosen (n i : ℕ) : Type 0 where
+  pub side : Side
+  pub is : nth (entry table n).sides i ≡ Some side
+  pub at : nth (all_sides table) (base table n + i) ≡ Some side
+  pub inside : base table n + i < length (all_sides table)
 
-chosen : (n l i : ℕ) → pick table n l ≡ Some i → Chosen n i
+pub chosen : (n l i : ℕ) → pick table n l ≡ Some i → Chosen n i
 chosen n l i h =
     let q = pick_listed (entry table n).sides l 0 i h in
     let same : q.number ≡ i = (let e = q.sum in omega arith) in

@@ -50,7 +50,7 @@ module _ (start : Start) (tokens : List Token) where
   only_deep place k f h = h.counted ∙ ap (λ y. min y (length tokens)) (one_deep the_rules dangling limit (wanted start) (asked start tokens) h.place place h.is f)
 
   -- no fault is left
-  sentence_from : (syntax deep : Option ℕ) → Exact the_rules (wanted start) (asked start tokens) syntax → DeepIs (part_of start) (asked start tokens) deep → first_of (counted syntax (length tokens)) (counted deep (length tokens)) ≡ None → IsSentence start tokens
+  pub sentence_from : (syntax deep : Option ℕ) → Exact the_rules (wanted start) (asked start tokens) syntax → DeepIs (part_of start) (asked start tokens) deep → first_of (counted syntax (length tokens)) (counted deep (length tokens)) ≡ None → IsSentence start tokens
   sentence_from None None e d is = record { sentence = sentence_of e; shallow = λ k h. d h.place h.is }
   sentence_from None (Some k) e d is = absurd (cc)
   sentence_from (Some j) None e d is = absurd (cc)
@@ -60,7 +60,7 @@ module _ (start : Start) (tokens : List Token) where
     go false h = cc
 
   -- the one that counts
-  refusal_from : (syntax deep : Option ℕ) → Exact the_rules (wanted start) (asked start tokens) syntax → DeepIs (part_of start) (asked start tokens) deep → (r : ParseRefusal) → first_of (counted syntax (length tokens)) (counted deep (length tokens)) ≡ Some r → IsRefusal start tokens r
+  pub refusal_from : (syntax deep : Option ℕ) → Exact the_rules (wanted start) (asked start tokens) syntax → DeepIs (part_of start) (asked start tokens) deep → (r : ParseRefusal) → first_of (counted syntax (length tokens)) (counted deep (length tokens)) ≡ Some r → IsRefusal start tokens r
   refusal_from None None e d r is = absurd (cc)
   refusal_from None (Some k) e d r is =
       let same : refusal.TooDeep (min k (length tokens)) ≡ r = cc in

@@ -1,5 +1,5 @@
--- Tokens don't have two answers: that they are what the text is to be, that one fault counts, or another.
-use Rattle.std.specs.Prelude.{◌≡◌, ℕ, List}
+-- Tokens have one answer: that they are what the text is to be, that one fault counts, or another.
+use Rattle.std.specs.Prelude.{◌≡◌, ◌⊎◌, ℕ, List}
 use Rattle.as3_lexer.specs.declared.token.Token.{Token}
 use Rattle.as3_parser.specs.declared.start.Start.{Start}
 use Rattle.as3_parser.specs.Syntax.{IsSentence, IsSyntaxFault, IsDeepFault}
@@ -20,3 +20,7 @@ pub record OneFault (start : Start) (tokens : List Token) : Type 0 where
 
 abbrev pub HasOneFault : Type 0
 HasOneFault = (start : Start) (tokens : List Token) → OneFault start tokens
+
+-- the tokens are what the text is to be, or a fault counts
+abbrev pub IsJudged : Type 0
+IsJudged = (start : Start) (tokens : List Token) → IsSentence start tokens ⊎ (((k : ℕ) × IsSyntaxFault start tokens k) ⊎ ((d : ℕ) × IsDeepFault start tokens d))

@@ -14,3 +14,17 @@ pub mod Cells
 pub mod Marks
 pub mod Here
 pub mod Laws
+pub mod Trees
+pub mod Expressions
+pub mod Ahead
+pub mod Spans
+pub mod Operators
+pub mod Forms
+pub mod Parsed
+pub mod Metadata
+pub mod Statements
+pub mod Handlers
+pub mod Members
+pub mod MemberForms
+pub mod Classes
+pub mod ClassForms

@@ -1,5 +1,6 @@
 // Why tokens aren't what a text is to be.
 
+use flex_base::NoMemory;
 use std::alloc::AllocError;
 
 /// Why tokens aren't what a text is to be. Tokens are counted from 0.
@@ -22,6 +23,17 @@ impl From<AllocError> for ParseRefusal {
     ghost from_gives = { λ _ refusal. refusal ≡ ParseRefusal.NoMemory };
 
     fn from(_error: AllocError) -> ParseRefusal {
+        ParseRefusal::NoMemory
+    }
+}
+
+impl From<NoMemory> for ParseRefusal {
+    ghost use Rattle.std.specs.Prelude.{◌≡◌};
+    ghost use Rattle.as3_parser.specs.declared.refusal.ParseRefusal.{ParseRefusal};
+
+    ghost from_gives = { λ _ refusal. refusal ≡ ParseRefusal.NoMemory };
+
+    fn from(_refusal: NoMemory) -> ParseRefusal {
         ParseRefusal::NoMemory
     }
 }

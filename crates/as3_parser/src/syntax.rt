@@ -2,7 +2,7 @@
 
 ghost use Rattle.std.specs.Prelude.{◌≡◌, OnOk, IfErr};
 ghost use Rattle.as3_parser.specs.Here.{counted, first_of};
-ghost use Rattle.as3_parser.specs.Laws.{HasOneFault, IsJudgedOneWay};
+ghost use Rattle.as3_parser.specs.Laws.{HasOneFault, IsJudged, IsJudgedOneWay};
 ghost use Rattle.as3_parser.specs.Syntax.{IsRefusal, IsSentence};
 
 use crate::faults::faults_of;
@@ -33,8 +33,9 @@ pub fn check_syntax(alloc: Global, start: Start, tokens: &TokenList) -> Result<(
     }
 }
 
-/// Tokens aren't both a sentence and at fault, nor is more than one fault the one that counts.
+/// Tokens are a sentence or at fault, and not both, and one fault is the one that counts.
 pub fn laws_of_syntax()
+    ensures judged { IsJudged }
     ensures one_way { IsJudgedOneWay }
     ensures one_fault { HasOneFault }
 {}

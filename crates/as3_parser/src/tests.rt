@@ -1,7 +1,12 @@
 // What is wrong with texts.
 
-use crate::{ParseRefusal, Start, check_syntax};
-use as3_lexer::{LexRefusal, tokens};
+ghost use Rattle.as3_lexer.specs.Tokens.{HasTokens};
+
+use crate::{
+    BinaryOperator, Expression, ParseRefusal, Start, Statement, parse_class_file, parse_expression,
+    parse_handler, parse_members, parse_metadata,
+};
+use as3_lexer::{LexRefusal, TokenList, tokens};
 use std::alloc::{AllocError, Global};
 use std::test::Fail;
 
@@ -94,10 +99,38 @@ fn start_of(name: &str) -> Start {
     }
 }
 
+// What is wrong with tokens, by the call that builds their tree.
+fn judge(alloc: Global, start: Start, text: &str, tokens: &TokenList) -> Result<(), ParseRefusal>
+    requires { HasTokens text.now tokens.now }
+{
+    match start {
+        Start::Expression => {
+            let _tree = parse_expression(alloc, text, tokens)?;
+            Ok(())
+        }
+        Start::Handler => {
+            let _tree = parse_handler(alloc, text, tokens)?;
+            Ok(())
+        }
+        Start::Metadata => {
+            let _tree = parse_metadata(alloc, text, tokens)?;
+            Ok(())
+        }
+        Start::ClassFile => {
+            let _tree = parse_class_file(alloc, text, tokens)?;
+            Ok(())
+        }
+        Start::Members => {
+            let _tree = parse_members(alloc, text, tokens)?;
+            Ok(())
+        }
+    }
+}
+
 // What is wrong with a text.
 fn said(alloc: Global, start: Start, text: &str) -> Result<String, AllocError> {
     match tokens(alloc, text) {
-        Ok(tokens) => match check_syntax(alloc, start, &tokens) {
+        Ok(tokens) => match judge(alloc, start, text, &tokens) {
             Ok(()) => format!(in alloc; "ok"),
             Err(ParseRefusal::Syntax(at)) => format!(in alloc; "syntax {at}"),
             Err(ParseRefusal::TooDeep(at)) => format!(in alloc; "deep {at}"),
@@ -115,6 +148,75 @@ fn texts_are_judged(rt: HostRuntime) -> Result<(), Fail> {
             let said = said(rt.alloc(), start_of(start), text)?;
             assert_eq!(rt; said.as_str(), *expected, "in {text:?}");
         }
+    }
+    Ok(())
+}
+
+// Whether an expression is `x - y - z`, with its place and that of `x - y`.
+fn is_difference_of_difference(expression: &Expression) -> bool {
+    match expression {
+        Expression::Binary(whole, BinaryOperator::Subtract, left, _) => {
+            let whole_fits = whole.start == 0 && whole.end == 9;
+            match &**left {
+                Expression::Binary(inner, BinaryOperator::Subtract, _, _) => {
+                    whole_fits && inner.start == 0 && inner.end == 5
+                }
+                _ => false,
+            }
+        }
+        _ => false,
+    }
+}
+
+// Whether a statement is an `if` without an `else`, whose statement is an `if` with one.
+fn has_inner_else(statement: &Statement) -> bool {
+    match statement {
+        Statement::If(_, _, inner) => matches!(&**inner, Statement::IfElse(..)),
+        _ => false,
+    }
+}
+
+#[test]
+fn operators_group_to_the_left(rt: HostRuntime) -> Result<(), Fail> {
+    let text = "a - b - c";
+    match tokens(rt.alloc(), text) {
+        Ok(tokens) => match parse_expression(rt.alloc(), text, &tokens) {
+            Ok(tree) => assert!(rt; is_difference_of_difference(&tree)),
+            Err(_) => assert!(rt; false),
+        },
+        Err(_) => assert!(rt; false),
+    }
+    Ok(())
+}
+
+#[test]
+fn an_else_belongs_to_the_nearest_if(rt: HostRuntime) -> Result<(), Fail> {
+    let text = "if (a) if (b) c(); else d()";
+    match tokens(rt.alloc(), text) {
+        Ok(tokens) => match parse_handler(rt.alloc(), text, &tokens) {
+            Ok(body) => assert!(rt; body.statements.iter().all(has_inner_else)),
+            Err(_) => assert!(rt; false),
+        },
+        Err(_) => assert!(rt; false),
+    }
+    Ok(())
+}
+
+// A sum of 20,001 names.
+fn long_sum(alloc: Global) -> Result<String, AllocError> {
+    let mut text = String::from_str(alloc, "a")?;
+    for _ in 0..20_000 {
+        text.push_str("+a")?;
+    }
+    Ok(text)
+}
+
+#[test]
+fn a_long_sum_is_read_and_dropped(rt: HostRuntime) -> Result<(), Fail> {
+    let text = long_sum(rt.alloc())?;
+    match tokens(rt.alloc(), &text) {
+        Ok(tokens) => assert!(rt; parse_expression(rt.alloc(), &text, &tokens).is_ok()),
+        Err(_) => assert!(rt; false),
     }
     Ok(())
 }

@@ -1,5 +1,4 @@
 pub mod Names
-pub mod Marks
-pub mod Elements
-pub mod Lists
+pub mod Values
 pub mod DocumentLaws
+pub mod Rows

@@ -1,33 +1,15 @@
--- The parts of a source.
-use Rattle.std.specs.Prelude.{◌≡◌, ◌≢◌, ℕ, ◌≤◌, List, [], ◌∷◌, ◌++◌, length, true, ◌||◌, Option, None, Some, All, ◌==◌}
-use Rattle.std.specs.List.{position_or_len}
+-- The parts of a source, as the reading finds them.
+use Rattle.std.specs.Prelude.{◌≢◌, ℕ, List, None, Some}
 use Rattle.flex_front.specs.declared.document.Element.{Element}
 use Rattle.flex_front.specs.declared.document.Element.TheVariants as element
+use Rattle.flex_front.specs.declared.document.Document.{Document}
+use Rattle.flex_front.specs.declared.reading.SourceRefusal.{SourceRefusal}
+use Rattle.flex_front.specs.declared.reading.SourceRefusal.TheVariants as refusal
 use Rattle.flex_front.specs.declared.reading.parts.Part.{Part}
 use Rattle.flex_front.specs.declared.reading.parts.Part.TheVariants as part
-use Rattle.flex_front.specs.Source.{IsElement, element_source, elements_source, AreNewIds, opening, closing}
-
--- a quotation mark or an apostrophe
-abbrev pub IsMark : ℕ → Type 0
-IsMark mark = ((mark == 34) || (mark == 39)) ≡ true
-
--- a byte stands nowhere in a text
-abbrev pub Lacks : ℕ → List ℕ → Type 0
-Lacks mark text = position_or_len (λ byte. byte == mark) text ≡ length text
-
--- a text is what stands before the first such byte, the byte, and what stands behind
-pub record SplitsAt (mark : ℕ) (text before behind : List ℕ) : Type 0 where
-  pub is : text ≡ before ++ mark ∷ behind
-  pub first : Lacks mark before
-
--- a text is a beginning, a value of this kind, a mark, and what stands behind
-pub record IsPart (Fine : List ℕ → Type 0) (beginning : List ℕ) (mark : ℕ) (text value rest : List ℕ) : Type 0 where
-  pub is : text ≡ beginning ++ (value ++ mark ∷ rest)
-  pub fine : Fine value
-
--- a text doesn't begin so
-abbrev pub HasNoPart : (List ℕ → Type 0) → List ℕ → ℕ → List ℕ → Type 0
-HasNoPart Fine beginning mark text = (value rest : List ℕ) → IsPart Fine beginning mark text value rest → ⊥
+use Rattle.flex_front.specs.Source.{AreElements, IsElement, IsRow, IsSource, Says, call_of}
+use Rattle.mxml_tree.specs.declared.tree.Element as Tag
+use Rattle.mxml_tree.specs.declared.tree.Node as Row
 
 -- the element that a part of a source says
 abbrev pub element_of : Part → Element
@@ -35,34 +17,38 @@ element_of (part.Label id text) = element.Label id.now text.now
 element_of (part.Button id None) = element.Button id.now None
 element_of (part.Button id (Some text)) = element.Button id.now (Some text.now)
 
--- a text begins with this element, and this stands behind it
-pub record BeginsWith (text : List ℕ) (element : Element) (rest : List ℕ) : Type 0 where
-  pub is : text ≡ element_source element rest
-  pub fine : IsElement element
+-- a tag says this element, which may stand in a document
+pub record IsPartOf (tag : Tag.Element) (e : Element) : Type 0 where
+  pub says : Says tag e
+  pub fine : IsElement e
 
--- a text begins with no Label
-abbrev pub HasNoLabel : List ℕ → Type 0
-HasNoLabel text = (id value rest : List ℕ) → BeginsWith text (element.Label id value) rest → ⊥
+abbrev pub HasNoPart : Tag.Element → Type 0
+HasNoPart tag = (e : Element) → IsPartOf tag e → ⊥
 
--- a text begins with no Button
-abbrev pub HasNoButton : List ℕ → Type 0
-HasNoButton text = (id : List ℕ) (click : Option (List ℕ)) (rest : List ℕ) → BeginsWith text (element.Button id click) rest → ⊥
+-- a node is this element, which may stand in a document
+pub record IsFineRow (row : Row.Node) (e : Element) : Type 0 where
+  pub is : IsRow row e
+  pub fine : IsElement e
 
--- a text begins with no element
-abbrev pub HasNoElement : List ℕ → Type 0
-HasNoElement text = (e : Element) (rest : List ℕ) → BeginsWith text e rest → ⊥
+abbrev pub HasNoRow : Row.Node → Type 0
+HasNoRow row = (e : Element) → IsFineRow row e → ⊥
 
--- a text begins with these elements, and this stands behind them
-pub record BeginWith (text : List ℕ) (elements : List Element) (rest : List ℕ) : Type 0 where
-  pub is : text ≡ elements_source elements rest
-  pub few : length elements ≤ 100
-  pub fine : All IsElement elements
-  pub distinct : AreNewIds [] elements
+-- a text is no call of `trace`
+abbrev pub HasNoText : List ℕ → Type 0
+HasNoText call = (text : List ℕ) → call ≢ call_of text
 
--- no elements fill a text up to a closing tag
-abbrev pub HasNoElements : List ℕ → Type 0
-HasNoElements text = (elements : List Element) → BeginWith text elements closing → ⊥
+-- a refusal of a node, of nodes, and of a tree: as not built only where there is no element, no elements, or no document
+abbrev pub IsNoElement : Row.Node → SourceRefusal → Type 0
+IsNoElement row refusal.NotYetBuilt = HasNoRow row
+IsNoElement row refusal.NoMemory = Unit {0}
+IsNoElement row _ = ⊥
 
--- the bytes aren't an opening tag, elements and a closing tag
-abbrev pub HasNoBody : List ℕ → Type 0
-HasNoBody bytes = (elements : List Element) → All IsElement elements → bytes ≢ opening ++ elements_source elements closing
+abbrev pub IsElementless : List Row.Node → SourceRefusal → Type 0
+IsElementless rows refusal.NotYetBuilt = (elements : List Element) → AreElements rows elements → ⊥
+IsElementless rows refusal.NoMemory = Unit {0}
+IsElementless rows _ = ⊥
+
+abbrev pub IsSourceless : List Row.Node → SourceRefusal → Type 0
+IsSourceless nodes refusal.NotYetBuilt = (document : Document) → IsSource nodes document → ⊥
+IsSourceless nodes refusal.NoMemory = Unit {0}
+IsSourceless nodes _ = ⊥

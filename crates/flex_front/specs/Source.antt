@@ -1,10 +1,18 @@
 -- The sources that are built so far.
-use Rattle.std.specs.Prelude.{◌≡◌, ℕ, ◌≤◌, List, [], ◌∷◌, ◌++◌, length, None, Some, All, Bool, true, false, not, ◌&&◌, nat_lt, nat_le, ◌==◌, codes}
+use Rattle.std.specs.Prelude.{◌≡◌, ℕ, ◌≤◌, List, [], ◌∷◌, ◌++◌, length, Option, None, Some, option_map, find, All, Bool, true, false, not, ◌&&◌, nat_lt, nat_le, ◌==◌, codes}
 use Rattle.std.specs.List.{list_all, list_any}
 use Rattle.std.specs.Str.{IsUtf8, bytes_eq}
 use Rattle.flex_front.specs.declared.document.Element.{Element}
 use Rattle.flex_front.specs.declared.document.Element.TheVariants as element
 use Rattle.flex_front.specs.declared.document.Document.{Document}
+use Rattle.flex_front.specs.declared.reading.SourceRefusal.{SourceRefusal}
+use Rattle.flex_front.specs.declared.reading.SourceRefusal.TheVariants as refusal
+use Rattle.mxml_tree.specs.declared.tree.Attribute.{Attribute}
+use Rattle.mxml_tree.specs.declared.tree.Element as Tag
+use Rattle.mxml_tree.specs.declared.tree.Node as Row
+use Rattle.mxml_tree.specs.declared.tree.NodeKind.TheVariants as kind
+use Rattle.mxml_tree.specs.Faults.{fault}
+use Rattle.mxml_tree.specs.IsTree.{HasNodes, IsFirstFault}
 
 -- the keywords of ActionScript
 abbrev pub keywords : List (List ℕ)
@@ -62,16 +70,51 @@ IsElement (element.Label id text) = IsId id × IsText text
 IsElement (element.Button id None) = IsId id
 IsElement (element.Button id (Some text)) = IsId id × IsText text
 
--- how an element is written, in front of what follows it
-abbrev pub element_source : Element → List ℕ → List ℕ
-element_source (element.Label id text) rest = codes "<s:Label id=\"" ++ (id ++ (codes "\" text=\"" ++ (text ++ (codes "\"/>" ++ rest))))
-element_source (element.Button id None) rest = codes "<s:Button id=\"" ++ (id ++ (codes "\"/>" ++ rest))
-element_source (element.Button id (Some text)) rest = codes "<s:Button id=\"" ++ (id ++ (codes "\" click=\"trace('" ++ (text ++ (codes "')\"/>" ++ rest))))
+-- the namespace of the components of Flex 4
+abbrev pub spark : List ℕ
+spark = codes "library://ns.adobe.com/flex/spark"
 
--- elements one behind another, in front of what follows them
-abbrev pub elements_source : List Element → List ℕ → List ℕ
-elements_source [] rest = rest
-elements_source (e ∷ es) rest = element_source e (elements_source es rest)
+-- whether an attribute is in no namespace and has this name
+abbrev pub is_named : List ℕ → Attribute → Bool
+is_named name a = bytes_eq a.space [] && bytes_eq a.local name
+
+-- the value of such an attribute, if there is one
+abbrev pub value_of : List ℕ → List Attribute → Option (List ℕ)
+value_of name attributes = option_map (λ (a : Attribute). a.value) (find (is_named name) attributes)
+
+-- the call of `trace` that a handler makes
+abbrev pub call_of : List ℕ → List ℕ
+call_of text = codes "trace('" ++ (text ++ codes "')")
+
+-- what the tag of an element says: its name, and so many attributes with these values
+abbrev pub Says : Tag.Element → Element → Type 0
+Says tag (element.Label id text) =
+    (tag.local ≡ codes "Label") × (length tag.attributes ≡ 2) × (value_of (codes "id") tag.attributes ≡ Some id) × (value_of (codes "text") tag.attributes ≡ Some text)
+Says tag (element.Button id None) = (tag.local ≡ codes "Button") × (length tag.attributes ≡ 1) × (value_of (codes "id") tag.attributes ≡ Some id)
+Says tag (element.Button id (Some text)) =
+    (tag.local ≡ codes "Button") × (length tag.attributes ≡ 2) × (value_of (codes "id") tag.attributes ≡ Some id) × (value_of (codes "click") tag.attributes ≡ Some (call_of text))
+
+-- a node that is this element, directly in the root
+pub record IsRow (row : Row.Node) (e : Element) : Type 0 where
+  pub tag : Tag.Element
+  pub is : row.kind ≡ kind.Element tag
+  pub inside : row.parent ≡ Some 0
+  pub space : tag.space ≡ spark
+  pub says : Says tag e
+
+-- nodes that are these elements
+abbrev pub AreRows : List Row.Node → List Element → Type 0
+AreRows [] [] = Unit {0}
+AreRows (row ∷ rows) (e ∷ es) = IsRow row e × AreRows rows es
+AreRows _ _ = ⊥
+
+-- the root: an Application without attributes
+pub record IsApplication (row : Row.Node) : Type 0 where
+  pub tag : Tag.Element
+  pub is : row.kind ≡ kind.Element tag
+  pub space : tag.space ≡ spark
+  pub local : tag.local ≡ codes "Application"
+  pub plain : length tag.attributes ≡ 0
 
 -- no element has this id
 abbrev pub IsNewId : List ℕ → List Element → Type 0
@@ -86,25 +129,39 @@ AreNewIds before (e ∷ es) = IsNewId (id_of e) before × AreNewIds (before ++ e
 abbrev pub main_name : List ℕ
 main_name = codes "Main.mxml"
 
--- the opening tag of an Application with the two namespaces
-abbrev pub opening : List ℕ
-opening = codes "<s:Application xmlns:fx=\"http://ns.adobe.com/mxml/2009\" xmlns:s=\"library://ns.adobe.com/flex/spark\">"
+-- nodes are elements that may stand in a document
+pub record AreElements (rows : List Row.Node) (elements : List Element) : Type 0 where
+  pub are : AreRows rows elements
+  pub few : length elements ≤ 100
+  pub fine : All IsElement elements
+  pub distinct : AreNewIds [] elements
 
--- the closing tag of an Application
-abbrev pub closing : List ℕ
-closing = codes "</s:Application>"
+-- a tree is that of a document: an Application, with elements in it and nothing else
+pub record IsSource (nodes : List Row.Node) (document : Document) : Type 0 where
+  pub root : Row.Node
+  pub rows : List Row.Node
+  pub is : nodes ≡ root ∷ rows
+  pub is_application : IsApplication root
+  pub elements : AreElements rows document.elements
 
 -- a source of this name and these bytes has this document
 pub record HasDocument (name bytes : List ℕ) (document : Document) : Type 0 where
   pub main : name ≡ main_name
-  pub is : bytes ≡ opening ++ elements_source document.elements closing
-  pub few : length document.elements ≤ 100
-  pub fine : All IsElement document.elements
-  pub distinct : AreNewIds [] document.elements
+  pub nodes : List Row.Node
+  pub has_nodes : HasNodes bytes nodes
+  pub is : IsSource nodes document
 
--- no document has a source of this name and these bytes
-abbrev pub IsNotBuilt : List ℕ → List ℕ → Type 0
-IsNotBuilt name bytes = (document : Document) → HasDocument name bytes document → ⊥
+-- a source has a tree, and no document
+pub record IsNotBuilt (name bytes : List ℕ) : Type 0 where
+  pub nodes : List Row.Node
+  pub has_nodes : HasNodes bytes nodes
+  pub none : (document : Document) → HasDocument name bytes document → ⊥
+
+-- why a source isn't built: its first fault, or that it has no document; want of memory may come at any
+abbrev pub IsRefused : List ℕ → List ℕ → SourceRefusal → Type 0
+IsRefused name bytes (refusal.Fault code at) = IsFirstFault (fault at code) bytes
+IsRefused name bytes refusal.NotYetBuilt = IsNotBuilt name bytes
+IsRefused name bytes refusal.NoMemory = Unit {0}
 
 -- a source has at most one document
 abbrev pub IsOneDocument : Type 0
@@ -124,7 +181,3 @@ pub record IsSmall (document : Document) : Type 0 where
 -- the document of a source is small
 abbrev pub IsSmallDocument : Type 0
 IsSmallDocument = (name bytes : List ℕ) (document : Document) → HasDocument name bytes document → IsSmall document
-
--- a source that has a document isn't long
-abbrev pub IsShortSource : Type 0
-IsShortSource = (name bytes : List ℕ) (document : Document) → HasDocument name bytes document → length bytes ≤ 1048576

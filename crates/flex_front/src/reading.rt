@@ -1,19 +1,26 @@
 // The reading of a source: an Application with Labels and Buttons.
 
-ghost use Rattle.std.specs.Prelude.{◌≡◌, ◌≢◌, ◌↔◌, ◌++◌, ℕ, List, IsTrue, IfOk, IfErr, MatchOption};
-ghost use Rattle.flex_front.specs.Source.{HasDocument, IsNotBuilt, IsSmall, IsOneDocument, IsSmallDocument, IsShortSource, IsNewId, id_of, main_name, opening, closing};
-ghost use Rattle.flex_front.specs.Parts.{element_of, BeginsWith, HasNoElement, BeginWith, HasNoElements, HasNoBody};
+ghost use Rattle.std.specs.Prelude.{◌≡◌, ◌↔◌, IsTrue, IfErr, IfOk};
+ghost use Rattle.flex_front.specs.Parts.{IsElementless, IsFineRow, IsNoElement, IsSourceless, element_of};
+ghost use Rattle.flex_front.specs.Source.{AreElements, HasDocument, IsApplication, IsNewId, IsOneDocument, IsRefused, IsSmall, IsSmallDocument, IsSource, id_of, main_name};
 
 mod parts;
 
 use crate::document::{Document, Element};
 use flex_base::{NoMemory, Sequence, Text};
-use parts::{Part, behind, read_part};
+use mxml_tree::{Node, Tree, TreeCode, TreeRefusal, read_tree};
+use parts::{Part, is_application, read_part};
 use std::alloc::Global;
 
 /// Why a source isn't built.
 #[derive(Clone, Copy, Debug, PartialEq, Eq)]
 pub enum SourceRefusal {
+    /// It has no tree, but this first fault.
+    Fault {
+        code: TreeCode,
+        /// The place in its bytes, from 0.
+        at: usize,
+    },
     /// It is of a form that isn't built yet.
     NotYetBuilt,
     /// Memory was refused.
@@ -22,9 +29,9 @@ pub enum SourceRefusal {
 
 impl From<NoMemory> for SourceRefusal {
     ghost use Rattle.std.specs.Prelude.{◌≡◌};
-    ghost use Rattle.flex_front.specs.declared.reading.SourceRefusal.{SourceRefusal};
+    ghost use Rattle.flex_front.specs.declared.reading.SourceRefusal.TheVariants as refusal;
 
-    ghost from_gives = { λ _ refusal. refusal ≡ SourceRefusal.NoMemory };
+    ghost from_gives = { λ _ r. r ≡ refusal.NoMemory };
 
     fn from(_refusal: NoMemory) -> SourceRefusal {
         SourceRefusal::NoMemory
@@ -34,28 +41,27 @@ impl From<NoMemory> for SourceRefusal {
 /// The only name that a main source may have.
 const MAIN_NAME: &str = "Main.mxml";
 
-const OPENING: &str =
-    "<s:Application xmlns:fx=\"http://ns.adobe.com/mxml/2009\" xmlns:s=\"library://ns.adobe.com/flex/spark\">";
-
-const CLOSING: &str = "</s:Application>";
-
 /// The greatest number of elements of a document.
 const MOST_ELEMENTS: usize = 100;
 
-/// The document of a source, which has this name and these bytes.
+/// The document of a source, which has this name and these bytes: what its tree says. MXML and Flex 4,
+/// in this project's profile: an Application with up to 100 Labels and Buttons in it and nothing else.
+///
+/// A source with a fault of its text is refused with the first one, also under another name.
 pub fn read_source(alloc: Global, name: &str, bytes: &[u8]) -> Result<Document, SourceRefusal>
     ensures document { IfOk result (HasDocument name.now bytes.now) }
     ensures small { IfOk result IsSmall }
-    ensures refused { IfErr result (λ refusal. refusal ≡ SourceRefusal.NotYetBuilt → IsNotBuilt name.now bytes.now) }
+    ensures refused { IfErr result (IsRefused name.now bytes.now) }
 {
+    let tree = match read_tree(alloc, bytes) {
+        Ok(tree) => tree,
+        Err(TreeRefusal::Fault { code, at }) => return Err(SourceRefusal::Fault { code, at }),
+        Err(TreeRefusal::NoMemory) => return Err(SourceRefusal::NoMemory),
+    };
     if !is_main(name) {
         return Err(SourceRefusal::NotYetBuilt);
     }
-    let Some(body) = body(bytes) else {
-        return Err(SourceRefusal::NotYetBuilt);
-    };
-    let elements = read_elements(alloc, body)?;
-    Ok(Document { elements })
+    read_document(alloc, tree.nodes())
 }
 
 // Whether a main source may have this name.
@@ -65,44 +71,50 @@ fn is_main(name: &str) -> bool
     name == MAIN_NAME
 }
 
-// What stands behind the opening tag of a source.
-fn body(bytes: &[u8]) -> Option<&str>
-    ensures { MatchOption result (HasNoBody bytes.now) (λ body. bytes.now ≡ opening ++ body.now) }
+// The document of a tree with these nodes.
+fn read_document(alloc: Global, nodes: &[Node]) -> Result<Document, SourceRefusal>
+    ensures found { IfOk result (IsSource nodes.now) }
+    ensures refused { IfErr result (IsSourceless nodes.now) }
 {
-    behind(str::from_utf8(bytes).ok()?, OPENING)
+    let Some((root, rows)) = nodes.split_first() else {
+        return Err(SourceRefusal::NotYetBuilt);
+    };
+    if !is_application(root) {
+        return Err(SourceRefusal::NotYetBuilt);
+    }
+    let elements = read_elements(alloc, rows)?;
+    Ok(Document { elements })
 }
 
-// The elements of a text that they fill up to a closing tag.
-fn read_elements(alloc: Global, text: &str) -> Result<Sequence<Element>, SourceRefusal>
-    ensures found { IfOk result (λ elements. BeginWith text.now elements closing) }
-    ensures refused { IfErr result (λ refusal. refusal ≡ SourceRefusal.NotYetBuilt → HasNoElements text.now) }
+// The elements that the nodes behind the root are.
+fn read_elements(alloc: Global, rows: &[Node]) -> Result<Sequence<Element>, SourceRefusal>
+    ensures found { IfOk result (AreElements rows.now) }
+    ensures refused { IfErr result (IsElementless rows.now) }
 {
-    let mut rest = text;
     let mut elements = Sequence::new(alloc);
-    while rest != CLOSING {
+    for row in rows {
         if elements.len() == MOST_ELEMENTS {
             return Err(SourceRefusal::NotYetBuilt);
         }
-        let (element, unread) = read_element(alloc, rest)?;
+        let element = read_element(alloc, row)?;
         if !is_new(id_of(&element), elements.as_slice()) {
             return Err(SourceRefusal::NotYetBuilt);
         }
         elements.push(element)?;
-        rest = unread;
     }
     Ok(elements)
 }
 
-// The element that a text begins with, and what stands behind it.
-fn read_element(alloc: Global, text: &str) -> Result<(Element, &str), SourceRefusal>
-    ensures found { IfOk result (λ r. BeginsWith text.now r.0 r.1.now) }
-    ensures refused { IfErr result (λ refusal. refusal ≡ SourceRefusal.NotYetBuilt → HasNoElement text.now) }
+// The element that a node is.
+fn read_element(alloc: Global, row: &Node) -> Result<Element, SourceRefusal>
+    ensures found { IfOk result (IsFineRow row.now) }
+    ensures refused { IfErr result (IsNoElement row.now) }
 {
-    let Some((part, rest)) = read_part(text) else {
+    let Some(part) = read_part(row) else {
         return Err(SourceRefusal::NotYetBuilt);
     };
     let element = make_element(alloc, part)?;
-    Ok((element, rest))
+    Ok(element)
 }
 
 // An element of its own, with the texts of a part of a source.
@@ -149,9 +161,8 @@ fn is_new(id: &str, elements: &[Element]) -> bool
     elements.iter().all(|element| id_of(element) != id)
 }
 
-/// A source has at most one document, which is small, and then the source isn't long.
+/// A source has at most one document, and that document is small.
 pub fn laws_of_sources()
     ensures one { IsOneDocument }
     ensures small { IsSmallDocument }
-    ensures short { IsShortSource }
 {}

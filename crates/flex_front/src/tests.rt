@@ -14,15 +14,17 @@ const CLOSING: &str = "</s:Application>";
 // Sources that have no document, by what stands between the opening tag and the source's end.
 const REFUSED: &[&str] = &[
     "",
-    "</s:Application> ",
-    "<s:Button id=\"go\"/> <s:Button id=\"on\"/></s:Application>",
+    "</s:Application>.",
+    "<s:Button id=\"go\"/>.</s:Application>",
     "<s:Button id=\"go\"/><s:Label id=\"go\" text=\"Hi\"/></s:Application>",
     "<s:Button id=\"go\" click=\"trace('it's')\"/></s:Application>",
     "<s:Button id=\"go\" click=\"trace(1)\"/></s:Application>",
     "<s:Button id=\"visible\"/></s:Application>",
+    "<s:Button id=\"go\"><s:Button id=\"on\"/></s:Button></s:Application>",
+    "<fx:Button id=\"go\"/></s:Application>",
     "<s:Label id=\"one\"/></s:Application>",
     "<s:Label id=\"one\" text=\"{one}\"/></s:Application>",
-    "<s:Label text=\"Hi\" id=\"one\"/></s:Application>",
+    "<s:Label id=\"one\" text=\"Hi\" s:text=\"Hi\"/></s:Application>",
 ];
 
 // The bytes of a source with this between its opening tag and its end.
@@ -38,7 +40,7 @@ fn count(alloc: Global, body: &[u8]) -> Result<Option<usize>, NoMemory> {
     let bytes = source(alloc, body)?;
     match read_source(alloc, "Main.mxml", bytes.as_slice()) {
         Ok(document) => Ok(Some(document.elements.len())),
-        Err(SourceRefusal::NotYetBuilt) => Ok(None),
+        Err(SourceRefusal::Fault { .. } | SourceRefusal::NotYetBuilt) => Ok(None),
         Err(SourceRefusal::NoMemory) => Err(NoMemory),
     }
 }
@@ -65,7 +67,7 @@ fn said(alloc: Global, document: &Document) -> Result<Bytes, NoMemory> {
 fn elements_are_read_in_order(rt: HostRuntime) -> Result<(), Fail> {
     let alloc = rt.alloc();
     let body =
-        b"<s:Label id=\"one\" text=\"Hi, all\"/><s:Button id=\"go\" click=\"trace('on')\"/><s:Button id=\"no\"/></s:Application>";
+        b"\r\n  <s:Label text='Hi, all' id=\"one\"/><!-- - -->\n  <t:Button xmlns:t=\"library://ns.adobe.com/flex/spark\" id=\"go\"\tclick=\"trace(&apos;on')\"></t:Button>\n<s:Button id=\"no\"/>\n</s:Application>\n";
     let bytes = source(alloc, body)?;
     match read_source(alloc, "Main.mxml", bytes.as_slice()) {
         Ok(document) => {

@@ -9,7 +9,7 @@ use Rattle.flex_base.specs.declared.outcome.Outcome.TheVariants.{Ended, Stopped,
 use Rattle.flex_base.specs.declared.outcome.Stop.TheVariants.{Cells}
 use Rattle.flex_edge.specs.Outside.{Rose, FilesState, SinkState}
 use Rattle.flex_edge.specs.Calls.{SameCounts, Changes, SinkChanges}
-use Rattle.flexc.specs.Command.{status, status_after, outcome_status, IsEnd, HasRead, FailsToRead, At_source, At_script, HasBuilt, HasWrittenFile, Says, HasNoMemory, Early, Writing, Playing, Course, No_command, Cannot_read, Too_long, Not_built, Bad_script, Cannot_write, Cannot_print, No_memory, Has_played, HoldsFile, HasPrintedTrace, IsRunnable, NoFileFault, NoSinkFault, RunsWhole, RunsInPart, HoldsBoth, Refuses, For_words, For_long_source, For_long_script, For_source, For_script, HasSaid}
+use Rattle.flexc.specs.Command.{status, source_fault_line, place_line, status_after, outcome_status, IsEnd, HasRead, FailsToRead, At_source, At_script, HasBuilt, HasWrittenFile, Says, HasNoMemory, Early, Writing, Playing, Course, No_command, Cannot_read, Too_long, Has_fault, Not_built, Bad_script, Cannot_write, Cannot_print, No_memory, Has_played, HoldsFile, HasPrintedTrace, IsRunnable, NoFileFault, NoSinkFault, RunsWhole, RunsInPart, HoldsBoth, Refuses, For_words, For_long_source, For_long_script, For_fault, For_source, For_script, HasSaid}
 use Rattle.flexc.specs.Meaning.{source_trace}
 use Rattle.script_player.specs.Playing.{HasTrace}
 use Rattle.flexc.specs.PlaysAs.{PlaysAs}
@@ -30,7 +30,11 @@ use Rattle.flex_edge.specs.declared.refused.Refused.TheVariants as refused
 use Rattle.flex_front.specs.declared.document.Document.{Document}
 use Rattle.flexc.proofs.Asked.{asks_none}
 use Rattle.flexc.proofs.EndsWell.{ends_so}
-use Rattle.flex_front.proofs.DocumentLaws.{one_document, short_source as source_short}
+use Rattle.flex_front.proofs.DocumentLaws.{one_document}
+use Rattle.mxml_items.specs.Places.{place_of}
+use Rattle.mxml_tree.specs.Faults.{Fault}
+use Rattle.mxml_tree.specs.IsTree.{HasNodes, IsFirstFault}
+use Rattle.mxml_tree.proofs.TreeOrFault.{never_both, one_fault}
 
 -- what failed, and what was said of it
 pub failed_course : (words : List (List ℕ)) (f : Failure) (old new : FilesState) (before mid after : SinkState) (answer : Status)
@@ -42,6 +46,17 @@ failed_course words (failure.CannotRead name) old new before mid after answer h 
 failed_course words (failure.TooLong name) old new before mid after answer h r =
     let n = h.0 in
     Too_long n.script n.out n.main name.now n.are n.none (subst (λ s. Says 10 (name.now ++ codes ": too long") s after answer) h.1 r)
+failed_course words (failure.SourceFault name line column code) old new before mid after answer h r =
+    let n = h.0 in
+    let q = n.none.1 in
+    let place = place_of q.source q.fault.at in
+    let is : place_line name.now line column code ≡ source_fault_line n.main q.source q.fault =
+    ap (λ m. place_line m line column code) n.none.0
+    ∙ ap (λ l. place_line n.main l column code) q.line_is
+    ∙ ap (λ c. place_line n.main place.line c code) q.column_is
+    ∙ ap (place_line n.main place.line place.column) q.code_is in
+    Has_fault n.script n.out n.main q.source q.commands q.fault n.are q.has_read q.first
+    (subst (λ l. Says 3 l before after answer) is (subst (λ s. Says 3 (place_line name.now line column code) s after answer) h.1 r))
 failed_course words (failure.NotYetBuilt name) old new before mid after answer h r =
     let n = h.0 in
     let q = n.none.1 in
@@ -131,8 +146,8 @@ module _ (words : List (List ℕ)) (old new : FilesState) where
       let same = same_words words script out main r.script r.out r.main are r.are in
       let there : old.bytes_of main ≡ Some r.source = ap old.bytes_of same.2 ∙ r.source_there in
       let long : 1048576 < length r.source = subst (λ o. IsSomeAnd o (λ bytes. 1048576 < length bytes)) there (fails.told r.tells).long in
-      let short = source_short r.main r.source document r.has in
-      omega (arith, long, short)
+      let fits = r.source_fits in
+      omega (arith, long, fits)
   read_long document events r script out main name are (At_script source mid first is fails) =
       let same = same_words words script out main r.script r.out r.main are r.are in
       let there : mid.bytes_of script ≡ Some r.commands = (first.1.told r.tells).tried.only.bytes script ∙ ap old.bytes_of same.0 ∙ r.script_there in
@@ -147,7 +162,16 @@ module _ (words : List (List ℕ)) (old new : FilesState) where
       let same = same_words words script out main r.script r.out r.main are r.are in
       let there = source_there script main source commands old new h r.tells in
       let is : source ≡ r.source = some_is source r.source (sym there ∙ ap old.bytes_of same.2 ∙ r.source_there) in
-      refused document (subst (λ m. HasDocument m source document) (sym same.2) (subst (λ s. HasDocument r.main s document) (sym is) r.has))
+      refused.none document (subst (λ m. HasDocument m source document) (sym same.2) (subst (λ s. HasDocument r.main s document) (sym is) r.has))
+
+  -- the source has no fault
+  not_faulty : (document : Document) (events : List UserEvent) (r : IsRunnable words old document events) (script out main source commands : List ℕ) (fault : Fault) → AreWords words script out main
+      → HasRead script main source commands old new → IsFirstFault fault source → ⊥
+  not_faulty document events r script out main source commands fault are h first =
+      let same = same_words words script out main r.script r.out r.main are r.are in
+      let there = source_there script main source commands old new h r.tells in
+      let is : source ≡ r.source = some_is source r.source (sym there ∙ ap old.bytes_of same.2 ∙ r.source_there) in
+      never_both r.source r.has.nodes fault r.has.has_nodes (subst (IsFirstFault fault) is first)
 
   -- each line of the script is known
   no_other_line : (document : Document) (events : List UserEvent) (r : IsRunnable words old document events) (script out main source commands : List ℕ) (line : ℕ)
@@ -183,6 +207,8 @@ module _ (words : List (List ℕ)) (old new : FilesState) where
     runs_whole answer (No_command missing files says) document events r none quiet = absurd (missing r.script r.out r.main r.are)
     runs_whole answer (Cannot_read script out main name are fails says) document events r none quiet = absurd (read_fails script out main name are fails none)
     runs_whole answer (Too_long script out main name are fails says) document events r none quiet = absurd (read_long document events r script out main name are fails)
+    runs_whole answer (Has_fault script out main source commands fault are has_read first says) document events r none quiet =
+        absurd (not_faulty document events r script out main source commands fault are has_read first)
     runs_whole answer (Not_built script out main source commands are has_read refused says) document events r none quiet =
         absurd (not_refused document events r script out main source commands are has_read refused)
     runs_whole answer (Bad_script script out main source commands built number are has_read has other says) document events r none quiet =
@@ -223,6 +249,8 @@ module _ (words : List (List ℕ)) (old new : FilesState) where
     runs_in_part answer (No_command missing files says) document events r none t = absurd (missing r.script r.out r.main r.are)
     runs_in_part answer (Cannot_read script out main name are fails says) document events r none t = absurd (read_fails script out main name are fails none)
     runs_in_part answer (Too_long script out main name are fails says) document events r none t = absurd (read_long document events r script out main name are fails)
+    runs_in_part answer (Has_fault script out main source commands fault are has_read first says) document events r none t =
+        absurd (not_faulty document events r script out main source commands fault are has_read first)
     runs_in_part answer (Not_built script out main source commands are has_read refused says) document events r none t =
         absurd (not_refused document events r script out main source commands are has_read refused)
     runs_in_part answer (Bad_script script out main source commands built number are has_read has other says) document events r none t =
@@ -323,6 +351,7 @@ module _ (words : List (List ℕ)) (old new : FilesState) where
     has_printed end ends answer (No_command missing files says) e = absurd (said 2 (code end) _ answer (free_of end ends).two (free_of end ends).eight (free_of end ends).nine says e)
     has_printed end ends answer (Cannot_read script out main name are fails says) e = absurd (said 7 (code end) _ answer (free_of end ends).seven (free_of end ends).eight (free_of end ends).nine says e)
     has_printed end ends answer (Too_long script out main name are fails says) e = absurd (said 10 (code end) _ answer (free_of end ends).ten (free_of end ends).eight (free_of end ends).nine says e)
+    has_printed end ends answer (Has_fault script out main source commands fault are has_read first says) e = absurd (said 3 (code end) _ answer (free_of end ends).three (free_of end ends).eight (free_of end ends).nine says e)
     has_printed end ends answer (Not_built script out main source commands are has_read refused says) e = absurd (said 3 (code end) _ answer (free_of end ends).three (free_of end ends).eight (free_of end ends).nine says e)
     has_printed end ends answer (Bad_script script out main source commands built number are has_read has other says) e = absurd (said 4 (code end) _ answer (free_of end ends).four (free_of end ends).eight (free_of end ends).nine says e)
     has_printed end ends answer (Cannot_write script out main built its are written says) e = absurd (said 8 (code end) _ answer (free_of end ends).eight (free_of end ends).eight (free_of end ends).nine says e)
@@ -392,6 +421,7 @@ module _ (words : List (List ℕ)) (old new : FilesState) (before after : SinkSt
   refuses_rightly answer (No_command missing files says) meant line (For_words m number same) = has_said meant 2 line (codes "flexc: bad usage") answer says number same
   refuses_rightly answer (No_command missing files says) meant line (For_long_source script out main source are there long number same) = absurd (missing script out main are)
   refuses_rightly answer (No_command missing files says) meant line (For_long_script script out main source commands are there fits script_there long number same) = absurd (missing script out main are)
+  refuses_rightly answer (No_command missing files says) meant line (For_fault script out main source commands fault are both first number same) = absurd (missing script out main are)
   refuses_rightly answer (No_command missing files says) meant line (For_source script out main source commands are both refused number same) = absurd (missing script out main are)
   refuses_rightly answer (No_command missing files says) meant line (For_script script out main source commands document which are both has other2 number same) = absurd (missing script out main are)
   refuses_rightly answer (Cannot_read script out main name are fails says) meant line why = absurd (read_fails words old new script out main name are fails none)
@@ -408,6 +438,9 @@ module _ (words : List (List ℕ)) (old new : FilesState) (before after : SinkSt
       by (Source s is there large) (For_long_script t p m source commands are2 there2 fits script_there long2 number same) =
           let names = same_words words script out main t p m are are2 in
           let e = ap length (same_bytes main m s source names.2 there there2) in absurd (omega (arith, e))
+      by (Source s is there large) (For_fault t p m source commands fault are2 both first number same) =
+          let names = same_words words script out main t p m are are2 in
+          let e = ap length (same_bytes main m s source names.2 there both.source_there) in let f = both.source_fits in absurd (omega (arith, e, f))
       by (Source s is there large) (For_source t p m source commands are2 both refused number same) =
           let names = same_words words script out main t p m are are2 in
           let e = ap length (same_bytes main m s source names.2 there both.source_there) in let f = both.source_fits in absurd (omega (arith, e, f))
@@ -420,12 +453,43 @@ module _ (words : List (List ℕ)) (old new : FilesState) (before after : SinkSt
       by (Script s c is there fits script_there large) (For_long_script t p m source commands are2 there2 fits2 script_there2 long2 number same) =
           let names = same_words words script out main t p m are are2 in
           has_said meant 10 line (name ++ codes ": too long") answer says number (same ∙ ap (λ l. l ++ codes ": too long") (sym (is ∙ names.0)))
+      by (Script s c is there fits script_there large) (For_fault t p m source commands fault are2 both first number same) =
+          let names = same_words words script out main t p m are are2 in
+          let e = ap length (same_bytes script t c commands names.0 script_there both.script_there) in let f = both.script_fits in absurd (omega (arith, e, f))
       by (Script s c is there fits script_there large) (For_source t p m source commands are2 both refused number same) =
           let names = same_words words script out main t p m are are2 in
           let e = ap length (same_bytes script t c commands names.0 script_there both.script_there) in let f = both.script_fits in absurd (omega (arith, e, f))
       by (Script s c is there fits script_there large) (For_script t p m source commands document which are2 both has other2 number same) =
           let names = same_words words script out main t p m are are2 in
           let e = ap length (same_bytes script t c commands names.0 script_there both.script_there) in let f = both.script_fits in absurd (omega (arith, e, f))
+  refuses_rightly answer (Has_fault script out main source commands fault are has_read first says) meant line why = by why
+    where
+      here : HoldsBoth script main source commands old
+      here = reading script main source commands new has_read
+
+      by : Refuses words old meant line → HasSaid meant line before after answer ⊎ (answer ≡ status 9)
+      by (For_words missing number same) = absurd (missing script out main are)
+      by (For_long_source t p m s are2 there2 long2 number same) =
+          let names = same_words words script out main t p m are are2 in
+          let e = ap length (same_bytes main m source s names.2 here.source_there there2) in let f = here.source_fits in absurd (omega (arith, e, f))
+      by (For_long_script t p m s c are2 there2 fits2 script_there2 long2 number same) =
+          let names = same_words words script out main t p m are are2 in
+          let e = ap length (same_bytes script t commands c names.0 here.script_there script_there2) in let f = here.script_fits in absurd (omega (arith, e, f))
+      by (For_fault t p m s c fault2 are2 both first2 number same) =
+          let names = same_words words script out main t p m are are2 in
+          let e = same_bytes main m source s names.2 here.source_there both.source_there in
+          let faults : fault ≡ fault2 = one_fault s fault fault2 (subst (IsFirstFault fault) e first) first2 in
+          let lines : line ≡ source_fault_line main source fault =
+          same ∙ ap (λ n. source_fault_line n s fault2) (sym names.2) ∙ ap (λ b. source_fault_line main b fault2) (sym e) ∙ ap (source_fault_line main source) (sym faults) in
+          has_said meant 3 line (source_fault_line main source fault) answer says number lines
+      by (For_source t p m s c are2 both refused number same) =
+          let names = same_words words script out main t p m are are2 in
+          let e = same_bytes main m source s names.2 here.source_there both.source_there in
+          absurd (never_both s refused.nodes fault refused.has_nodes (subst (IsFirstFault fault) e first))
+      by (For_script t p m s c document which are2 both has other2 number same) =
+          let names = same_words words script out main t p m are are2 in
+          let e = same_bytes main m source s names.2 here.source_there both.source_there in
+          absurd (never_both s has.nodes fault has.has_nodes (subst (IsFirstFault fault) e first))
   refuses_rightly answer (Not_built script out main source commands are has_read refused says) meant line why = by why
     where
       here : HoldsBoth script main source commands old
@@ -439,13 +503,17 @@ module _ (words : List (List ℕ)) (old new : FilesState) (before after : SinkSt
       by (For_long_script t p m s c are2 there2 fits2 script_there2 long2 number same) =
           let names = same_words words script out main t p m are are2 in
           let e = ap length (same_bytes script t commands c names.0 here.script_there script_there2) in let f = here.script_fits in absurd (omega (arith, e, f))
+      by (For_fault t p m s c fault are2 both first number same) =
+          let names = same_words words script out main t p m are are2 in
+          let e = same_bytes main m source s names.2 here.source_there both.source_there in
+          absurd (never_both s refused.nodes fault (subst (λ b. HasNodes b refused.nodes) e refused.has_nodes) first)
       by (For_source t p m s c are2 both refused2 number same) =
           let names = same_words words script out main t p m are are2 in
           has_said meant 3 line (main ++ codes ":1:1: NotYetBuilt") answer says number (same ∙ ap (λ l. l ++ codes ":1:1: NotYetBuilt") (sym names.2))
       by (For_script t p m s c document which are2 both has other2 number same) =
           let names = same_words words script out main t p m are are2 in
           let e = same_bytes main m source s names.2 here.source_there both.source_there in
-          absurd (refused document (subst (λ n. HasDocument n source document) (sym names.2) (subst (λ b. HasDocument m b document) (sym e) has)))
+          absurd (refused.none document (subst (λ n. HasDocument n source document) (sym names.2) (subst (λ b. HasDocument m b document) (sym e) has)))
   refuses_rightly answer (Bad_script script out main source commands built first are has_read has other says) meant line why = by why
     where
       here : HoldsBoth script main source commands old
@@ -459,10 +527,14 @@ module _ (words : List (List ℕ)) (old new : FilesState) (before after : SinkSt
       by (For_long_script t p m s c are2 there2 fits2 script_there2 long2 number same) =
           let names = same_words words script out main t p m are are2 in
           let e = ap length (same_bytes script t commands c names.0 here.script_there script_there2) in let f = here.script_fits in absurd (omega (arith, e, f))
+      by (For_fault t p m s c fault are2 both first2 number same) =
+          let names = same_words words script out main t p m are are2 in
+          let e = same_bytes main m source s names.2 here.source_there both.source_there in
+          absurd (never_both s has.nodes fault (subst (λ b. HasNodes b has.nodes) e has.has_nodes) first2)
       by (For_source t p m s c are2 both refused number same) =
           let names = same_words words script out main t p m are are2 in
           let e = same_bytes main m source s names.2 here.source_there both.source_there in
-          absurd (refused built (subst (λ n. HasDocument n s built) names.2 (subst (λ b. HasDocument main b built) e has)))
+          absurd (refused.none built (subst (λ n. HasDocument n s built) names.2 (subst (λ b. HasDocument main b built) e has)))
       by (For_script t p m s c document which are2 both has2 other2 number same) =
           let names = same_words words script out main t p m are are2 in
           let e = same_bytes script t commands c names.0 here.script_there both.script_there in
@@ -484,10 +556,14 @@ module _ (words : List (List ℕ)) (old new : FilesState) (before after : SinkSt
           let e = ap length (same_bytes script t written.built.commands c names.0 here.script_there script_there2) in
           let f = here.script_fits in
           absurd (omega (arith, e, f))
+      by (For_fault t p m s c fault are2 both first number same) =
+          let names = same_words words script out main t p m are are2 in
+          let e = same_bytes main m written.built.source s names.2 here.source_there both.source_there in
+          absurd (never_both s written.built.has.nodes fault (subst (λ b. HasNodes b written.built.has.nodes) e written.built.has.has_nodes) first)
       by (For_source t p m s c are2 both refused number same) =
           let names = same_words words script out main t p m are are2 in
           let e = same_bytes main m written.built.source s names.2 here.source_there both.source_there in
-          absurd (refused built (subst (λ n. HasDocument n s built) names.2 (subst (λ b. HasDocument main b built) e written.built.has)))
+          absurd (refused.none built (subst (λ n. HasDocument n s built) names.2 (subst (λ b. HasDocument main b built) e written.built.has)))
       by (For_script t p m s c document which are2 both has other2 number same) =
           let names = same_words words script out main t p m are are2 in
           let e = same_bytes script t written.built.commands c names.0 here.script_there both.script_there in

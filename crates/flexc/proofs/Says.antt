@@ -1,5 +1,10 @@
 -- The printing of a line in pieces.
-use Rattle.std.proofs.Common.{◌≡◌, ℕ, List, ◌++◌, Ok, Err, Result, sym, ap, ◌∙◌, subst, append_assoc}
+use Rattle.std.specs.Prelude.{codes, decimal}
+use Rattle.flex_base.specs.Story.{with_end}
+use Rattle.flexc.specs.Command.{place_line}
+use Rattle.mxml_tree.specs.declared.fault.TreeCode.{TreeCode}
+use Rattle.mxml_tree.specs.CodeNames.{name_of}
+use Rattle.std.proofs.Common.{◌≡◌, ℕ, List, [], ◌∷◌, ◌++◌, Ok, Err, Result, sym, ap, ◌∙◌, subst, append_assoc}
 use Rattle.flex_edge.specs.Outside.{Rose, SinkState}
 use Rattle.flex_edge.specs.declared.refused.Refused.{Refused}
 use Rattle.flex_edge.specs.declared.refused.Refused.TheVariants as refused
@@ -38,3 +43,12 @@ prints_stop x y a b refused.Failed p =
     record { tells = p.tells; faults = p.faults; told = λ t. let h = p.told t in record { part = h.part; left = h.left ++ y; whole = ap (λ l. l ++ y) h.whole ∙ append_assoc h.part h.left y; taken = h.taken } }
 prints_stop x y a b refused.NoMemory p =
     record { tells = p.tells; faults = p.faults; told = λ t. let h = p.told t in record { part = h.part; left = h.left ++ y; whole = ap (λ l. l ++ y) h.whole ∙ append_assoc h.part h.left y; taken = h.taken } }
+
+-- the line of a fault, in the pieces that are printed
+pub prints_place : (name : List ℕ) (line column : ℕ) (code : TreeCode) (a b : SinkState) (result : Result (Unit {0}) Refused)
+    → Prints a (name ++ ((codes ":" ++ decimal line) ++ ((codes ":" ++ decimal column) ++ (codes ": " ++ (name_of code ++ (10 ∷ [])))))) result b
+    → Prints a (with_end (place_line name line column code)) result b
+prints_place name line column code a b result p = subst (λ l. Prints a l result b) (sym pieces) p
+  where
+    pieces : with_end (place_line name line column code) ≡ name ++ ((codes ":" ++ decimal line) ++ ((codes ":" ++ decimal column) ++ (codes ": " ++ (name_of code ++ (10 ∷ [])))))
+    pieces = simp append_assoc

@@ -9,12 +9,15 @@ use Rattle.flexc.specs.Words.{AreWords}
 use Rattle.flex_front.specs.Source.{IsNotBuilt}
 use Rattle.flex_base.specs.declared.event.UserEvent.{UserEvent}
 use Rattle.flex_edge.specs.Whole.{MakesNone, ReadsFile, WritesFile}
-use Rattle.flexc.specs.Work.{read_failure, IsRefused, HasNoDocument, HasFailed}
+use Rattle.flexc.specs.Work.{read_failure, IsFaulty, IsRefused, HasNoDocument, HasFailed}
 use Rattle.flexc.specs.declared.command.Failure.{Failure}
 use Rattle.flexc.specs.declared.command.Failure.TheVariants as failure
 use Rattle.flex_edge.specs.declared.input.ReadRefusal.{ReadRefusal}
 use Rattle.flex_edge.specs.declared.input.ReadRefusal.TheVariants as read
 use Rattle.flex_edge.specs.declared.refused.Refused.{Refused}
+use Rattle.mxml_items.specs.Places.{place_of}
+use Rattle.mxml_tree.specs.Faults.{Fault}
+use Rattle.mxml_tree.specs.IsTree.{IsFirstFault}
 use Rattle.flex_front.specs.declared.document.Document.{Document}
 
 -- no file was made or changed in either part
@@ -48,12 +51,28 @@ pub is_refused : (script main source commands : List ℕ) (old mid new : FilesSt
 is_refused script main source commands old mid new a b refused =
     record { source = source; commands = commands; has_read = record { mid = mid; first = a; second = b }; refused = refused }
 
+-- the source was judged, and has a fault
+pub is_faulty : (script main source commands : List ℕ) (old mid new : FilesState) (fault : Fault) → ReadsFile 1048576 old main (Ok source) mid → ReadsFile 1048576 mid script (Ok commands) new → IsFirstFault fault source
+    → IsFaulty script main (place_of source fault.at).line (place_of source fault.at).column fault.code old new
+is_faulty script main source commands old mid new fault a b first =
+    record {
+      source = source;
+      commands = commands;
+      has_read = record { mid = mid; first = a; second = b };
+      fault = fault;
+      first = first;
+      line_is = refl;
+      column_is = refl;
+      code_is = refl;
+    }
+
 -- the words are those of a command that has nothing to play
 pub nothing_to_play : (words : List (List ℕ)) (script out main : List ℕ) (f : Failure) (old new : FilesState) (before : SinkState) → AreWords words script out main
     → HasNoDocument script main f old new → HasFailed words f old new before before
 nothing_to_play words script out main failure.BadUsage old new before are h = absurd h
 nothing_to_play words script out main (failure.CannotRead name) old new before are h = (record { script = script; out = out; main = main; are = are; none = h }, refl)
 nothing_to_play words script out main (failure.TooLong name) old new before are h = (record { script = script; out = out; main = main; are = are; none = h }, refl)
+nothing_to_play words script out main (failure.SourceFault name line column code) old new before are h = (record { script = script; out = out; main = main; are = are; none = h }, refl)
 nothing_to_play words script out main (failure.NotYetBuilt name) old new before are h = (record { script = script; out = out; main = main; are = are; none = h }, refl)
 nothing_to_play words script out main (failure.ScriptNotYetBuilt line) old new before are h = (record { script = script; out = out; main = main; are = are; none = h }, refl)
 nothing_to_play words script out main (failure.CannotWrite name) old new before are h = absurd h

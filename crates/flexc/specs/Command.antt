@@ -1,5 +1,5 @@
 -- What `command` does and answers.
-use Rattle.std.specs.Prelude.{◌≡◌, ℕ, ◌<◌, ◌≤◌, List, ◌++◌, length, IsTrue, Some, Result, Ok, Err, codes, ◌⊎◌}
+use Rattle.std.specs.Prelude.{◌≡◌, ℕ, ◌<◌, ◌≤◌, List, ◌++◌, length, IsTrue, Some, Result, Ok, Err, codes, decimal, ◌⊎◌}
 use Rattle.flex_base.specs.declared.outcome.Outcome.{Outcome}
 use Rattle.flex_base.specs.declared.outcome.Outcome.TheVariants.{Ended, Stopped, TurnsSpent, Fault}
 use Rattle.flex_base.specs.declared.outcome.Stop.TheVariants.{Cells}
@@ -11,6 +11,11 @@ use Rattle.flex_edge.specs.declared.input.ReadRefusal.TheVariants as read
 use Rattle.flex_edge.specs.declared.refused.Refused.{Refused}
 use Rattle.flex_edge.specs.declared.refused.Refused.TheVariants as refused
 use Rattle.flex_front.specs.declared.document.Document.{Document}
+use Rattle.mxml_items.specs.Places.{place_of}
+use Rattle.mxml_tree.specs.declared.fault.TreeCode.{TreeCode}
+use Rattle.mxml_tree.specs.CodeNames.{name_of}
+use Rattle.mxml_tree.specs.Faults as tree
+use Rattle.mxml_tree.specs.IsTree.{IsFirstFault}
 use Rattle.flexc.specs.Meaning.{source_trace}
 use Rattle.flexc.specs.PlaysAs.{PlaysAs}
 use Rattle.flexc.specs.Lines.{script_of, script_line}
@@ -30,6 +35,14 @@ outcome_status Ended = status 0
 outcome_status (Stopped stop) = status 1
 outcome_status TurnsSpent = status 6
 outcome_status (Fault fault) = status 11
+
+-- the line of a fault at a line and a column of the file with this name
+abbrev pub place_line : List ℕ → ℕ → ℕ → TreeCode → List ℕ
+place_line name line column code = name ++ (codes ":" ++ (decimal line ++ (codes ":" ++ (decimal column ++ (codes ": " ++ name_of code)))))
+
+-- the line of a source's fault
+abbrev pub source_fault_line : List ℕ → List ℕ → tree.Fault → List ℕ
+source_fault_line name source fault = place_line name (place_of source fault.at).line (place_of source fault.at).column fault.code
 
 -- how the play of a document that is built so far comes to its end: by itself, because its turns are spent, or because the cells don't hold out for an event
 abbrev pub IsEnd : Outcome → Type 0
@@ -96,6 +109,8 @@ pub data Course (words : List (List ℕ)) (old new : FilesState) (before after :
       (says : Says 7 (codes "cannot read " ++ name) before after answer) → Course words old new before after answer
   Too_long : (script out main name : List ℕ) (are : AreWords words script out main) (fails : FailsToRead script main name read.TooLong old new)
       (says : Says 10 (name ++ codes ": too long") before after answer) → Course words old new before after answer
+  Has_fault : (script out main source commands : List ℕ) (fault : tree.Fault) (are : AreWords words script out main) (has_read : HasRead script main source commands old new)
+      (first : IsFirstFault fault source) (says : Says 3 (source_fault_line main source fault) before after answer) → Course words old new before after answer
   Not_built : (script out main source commands : List ℕ) (are : AreWords words script out main) (has_read : HasRead script main source commands old new)
       (refused : IsNotBuilt main source) (says : Says 3 (main ++ codes ":1:1: NotYetBuilt") before after answer) → Course words old new before after answer
   Bad_script : (script out main source commands : List ℕ) (document : Document) (line : ℕ) (are : AreWords words script out main)
@@ -146,6 +161,7 @@ pub record IsRunnable (words : List (List ℕ)) (files : FilesState) (document :
   pub are : AreWords words script out main
   pub tells : IsTrue files.tells
   pub source_there : files.bytes_of main ≡ Some source
+  pub source_fits : length source ≤ 1048576
   pub commands : List ℕ
   pub script_there : files.bytes_of script ≡ Some commands
   pub script_fits : length commands ≤ 1048576
@@ -175,6 +191,8 @@ pub data Refuses (words : List (List ℕ)) (files : FilesState) (meant : ℕ) (l
   For_long_script : (script out main source commands : List ℕ) (are : AreWords words script out main) (there : files.bytes_of main ≡ Some source)
       (fits : length source ≤ 1048576) (script_there : files.bytes_of script ≡ Some commands) (long : 1048576 < length commands) (status_is : meant ≡ 10)
       (line_is : line ≡ script ++ codes ": too long") → Refuses words files meant line
+  For_fault : (script out main source commands : List ℕ) (fault : tree.Fault) (are : AreWords words script out main) (both : HoldsBoth script main source commands files)
+      (first : IsFirstFault fault source) (status_is : meant ≡ 3) (line_is : line ≡ source_fault_line main source fault) → Refuses words files meant line
   For_source : (script out main source commands : List ℕ) (are : AreWords words script out main) (both : HoldsBoth script main source commands files)
       (refused : IsNotBuilt main source) (status_is : meant ≡ 3) (line_is : line ≡ main ++ codes ":1:1: NotYetBuilt") → Refuses words files meant line
   For_script : (script out main source commands : List ℕ) (document : Document) (number : ℕ) (are : AreWords words script out main)

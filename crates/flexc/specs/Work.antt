@@ -12,11 +12,15 @@ use Rattle.flex_edge.specs.declared.input.ReadRefusal.{ReadRefusal}
 use Rattle.flex_edge.specs.declared.input.ReadRefusal.TheVariants as read
 use Rattle.flex_edge.specs.declared.refused.Refused.TheVariants as refused
 use Rattle.flex_front.specs.declared.document.Document.{Document}
-use Rattle.flexc.specs.Command.{status, HasRead, FailsToRead, HasBuilt, HasWrittenFile, Says, HasNoMemory}
+use Rattle.flexc.specs.Command.{status, place_line, HasRead, FailsToRead, HasBuilt, HasWrittenFile, Says, HasNoMemory}
 use Rattle.flexc.specs.Lines.{script_of, script_line}
 use Rattle.flexc.specs.Words.{AreWords, IsNoCommand, turns}
 use Rattle.script_player.specs.Printed.{HasPlayed, Plays}
 use Rattle.flex_front.specs.Source.{HasDocument, IsNotBuilt}
+use Rattle.mxml_items.specs.Places.{place_of}
+use Rattle.mxml_tree.specs.declared.fault.TreeCode.{TreeCode}
+use Rattle.mxml_tree.specs.Faults.{Fault}
+use Rattle.mxml_tree.specs.IsTree.{IsFirstFault}
 use Rattle.flex_base.specs.declared.event.UserEvent.{UserEvent}
 use Rattle.flex_edge.specs.Whole.{MakesNone}
 
@@ -33,6 +37,17 @@ pub record IsRefused (script main : List ℕ) (old new : FilesState) : Type 0 wh
   pub has_read : HasRead script main source commands old new
   pub refused : IsNotBuilt main source
 
+-- both files were read, and this is the first fault of the source, by its line, its column and its code
+pub record IsFaulty (script main : List ℕ) (line column : ℕ) (code : TreeCode) (old new : FilesState) : Type 0 where
+  pub source : List ℕ
+  pub commands : List ℕ
+  pub has_read : HasRead script main source commands old new
+  pub fault : Fault
+  pub first : IsFirstFault fault source
+  pub line_is : line ≡ (place_of source fault.at).line
+  pub column_is : column ≡ (place_of source fault.at).column
+  pub code_is : code ≡ fault.code
+
 -- both files were read, and this is the first line of the script that isn't known
 pub record HasCommands (script main : List ℕ) (line : ℕ) (old new : FilesState) : Type 0 where
   pub source : List ℕ
@@ -46,6 +61,7 @@ pub record HasCommands (script main : List ℕ) (line : ℕ) (old new : FilesSta
 abbrev pub HasNoDocument : List ℕ → List ℕ → Failure → FilesState → FilesState → Type 0
 HasNoDocument script main (failure.CannotRead name) old new = FailsToRead script main name.now read.Failed old new
 HasNoDocument script main (failure.TooLong name) old new = FailsToRead script main name.now read.TooLong old new
+HasNoDocument script main (failure.SourceFault name line column code) old new = (name.now ≡ main) × IsFaulty script main line column code old new
 HasNoDocument script main (failure.NotYetBuilt name) old new = (name.now ≡ main) × IsRefused script main old new
 HasNoDocument script main (failure.ScriptNotYetBuilt line) old new = HasCommands script main line old new
 HasNoDocument script main failure.NoMemory old new = Changes old new (SameCounts old new) (MakesNone old new)
@@ -110,6 +126,7 @@ abbrev pub Reports : Failure → SinkState → Status → SinkState → Type 0
 Reports failure.BadUsage before answer after = Says 2 (codes "flexc: bad usage") before after answer
 Reports (failure.CannotRead name) before answer after = Says 7 (codes "cannot read " ++ name.now) before after answer
 Reports (failure.TooLong name) before answer after = Says 10 (name.now ++ codes ": too long") before after answer
+Reports (failure.SourceFault name line column code) before answer after = Says 3 (place_line name.now line column code) before after answer
 Reports (failure.NotYetBuilt name) before answer after = Says 3 (name.now ++ codes ":1:1: NotYetBuilt") before after answer
 Reports (failure.ScriptNotYetBuilt line) before answer after = Says 4 (script_line line) before after answer
 Reports (failure.CannotWrite name) before answer after = Says 8 (codes "cannot write " ++ name.now) before after answer

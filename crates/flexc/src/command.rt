@@ -1,13 +1,16 @@
 // The top call.
 
-ghost use Rattle.std.specs.Prelude.{◌≡◌, ◌++◌, [], ◌∷◌, IfOk};
+ghost use Rattle.std.specs.Prelude.{◌≡◌, ◌≤◌, ◌++◌, [], ◌∷◌, IfOk, decimal, length};
 ghost use Rattle.abc_format.specs.Spelling.{abc_bytes};
 ghost use Rattle.flex_base.specs.declared.outcome.Outcome.TheVariants.{Ended, Stopped, TurnsSpent};
 ghost use Rattle.flex_base.specs.declared.outcome.Stop.TheVariants.{Cells};
 ghost use Rattle.swf_tags.specs.Spelling.{swf_bytes};
-ghost use Rattle.flexc.specs.Command.{Course, HasPrintedTrace, RunsWhole, RunsInPart, RefusesRightly, Says, outcome_status, status};
+ghost use Rattle.flexc.specs.Command.{Course, HasPrintedTrace, RunsWhole, RunsInPart, RefusesRightly, Says, outcome_status, place_line, status};
 ghost use Rattle.flexc.specs.Emitted.{abc_of, main_text};
 ghost use Rattle.flexc.specs.PlaysAs.{PlaysAs};
+ghost use Rattle.flex_base.specs.Story.{with_end};
+ghost use Rattle.flexc.specs.declared.command.Failure.TheVariants as failure;
+ghost use Rattle.mxml_items.specs.Places.{place_of};
 ghost use Rattle.flex_front.specs.Source.{AreNewIds, IsSmall};
 ghost use Rattle.flexc.specs.Words.{texts};
 ghost use Rattle.flex_edge.specs.Whole.{Prints};
@@ -21,6 +24,7 @@ use flex_base::{Bytes, NoMemory, Outcome, Script, Text};
 use flex_edge::{Files, Observer, ReadRefusal, Refused, Sink, print, read_file, write_file};
 use flex_front::{Document, SourceRefusal, read_source};
 use itoa::Buffer;
+use mxml_tree::{TreeCode, place_of};
 use script_player::play;
 use std::alloc::Global;
 use swf_tags::write_swf;
@@ -63,6 +67,12 @@ enum Failure<'a> {
     BadUsage,
     CannotRead(&'a str),
     TooLong(&'a str),
+    SourceFault {
+        name: &'a str,
+        line: u32,
+        column: u32,
+        code: TreeCode,
+    },
     NotYetBuilt(&'a str),
     ScriptNotYetBuilt(u32),
     CannotWrite(&'a str),
@@ -161,6 +171,9 @@ fn read_job<'a, F: Files>(alloc: Global, run: Run<'a>, files: &mut F) -> Result<
     };
     let document = match read_source(alloc, run.main, source.as_slice()) {
         Ok(document) => document,
+        Err(SourceRefusal::Fault { code, at }) => {
+            return Err(source_fault(run.main, source.as_slice(), code, at));
+        }
         Err(SourceRefusal::NotYetBuilt) => return Err(Failure::NotYetBuilt(run.main)),
         Err(SourceRefusal::NoMemory) => return Err(Failure::NoMemory),
     };
@@ -168,6 +181,21 @@ fn read_job<'a, F: Files>(alloc: Global, run: Run<'a>, files: &mut F) -> Result<
         Ok(script) => Ok(Job { document, script }),
         Err(ScriptRefusal::NotYetBuilt(line)) => Err(Failure::ScriptNotYetBuilt(line)),
         Err(ScriptRefusal::NoMemory) => Err(Failure::NoMemory),
+    }
+}
+
+// The fault at a place of the source with this name.
+fn source_fault<'a>(name: &'a str, source: &[u8], code: TreeCode, at: usize) -> Failure<'a>
+    requires within { at ≤ length source.now }
+    requires short { length source.now ≤ 1048576 }
+    ensures { result ≡ failure.SourceFault name.entry (place_of source.now at).line (place_of source.now at).column code }
+{
+    let (line, column) = place_of(source, at);
+    Failure::SourceFault {
+        name,
+        line,
+        column,
+        code,
     }
 }
 
@@ -216,6 +244,16 @@ fn report<O: Sink>(out: &mut O, failure: Failure<'_>) -> Status
         Failure::BadUsage => print_line(out, Status::BAD_USAGE, "flexc: bad usage", "", ""),
         Failure::CannotRead(name) => print_line(out, Status::READ_FAULT, "cannot read ", name, ""),
         Failure::TooLong(name) => print_line(out, Status::TOO_LONG, "", name, ": too long"),
+        Failure::SourceFault {
+            name,
+            line,
+            column,
+            code,
+        } => match print_fault(out, name, line, column, code) {
+            Ok(()) => Status::SOURCE_FAULT,
+            Err(Refused::Failed) => Status::WRITE_FAULT,
+            Err(Refused::NoMemory) => Status::NO_MEMORY,
+        },
         Failure::NotYetBuilt(name) => {
             print_line(out, Status::SOURCE_FAULT, "", name, ":1:1: NotYetBuilt")
         }
@@ -257,4 +295,29 @@ fn print_pieces<O: Sink>(out: &mut O, before: &str, name: &str, after: &str) -> 
     print(out, name.as_bytes())?;
     print(out, after.as_bytes())?;
     print(out, b"\n")
+}
+
+// Prints the line of a fault of a source.
+fn print_fault<O: Sink>(
+    out: &mut O,
+    name: &str,
+    line: u32,
+    column: u32,
+    code: TreeCode,
+) -> Result<(), Refused>
+    ensures { Prints (O.state out.old) (with_end (place_line name.now line column code)) result (O.state out.new) }
+{
+    print(out, name.as_bytes())?;
+    print_number(out, ":", line)?;
+    print_number(out, ":", column)?;
+    print_pieces(out, ": ", code.name(), "")
+}
+
+// Prints a number behind a mark.
+fn print_number<O: Sink>(out: &mut O, mark: &str, number: u32) -> Result<(), Refused>
+    ensures { Prints (O.state out.old) (mark.now ++ decimal number) result (O.state out.new) }
+{
+    let mut digits = Buffer::new();
+    print(out, mark.as_bytes())?;
+    print(out, digits.format(number).as_bytes())
 }

@@ -270,7 +270,8 @@ fn turns_are_spent(rt: HostRuntime) -> Result<(), Fail> {
 #[test]
 fn other_sources_are_not_yet_built(rt: HostRuntime) -> Result<(), Fail> {
     let cases = [
-        "<s:Label id=\"greeting\" text=\"Hi\" />",
+        "<s:Label id=\"greeting\" text=\"Hi\">.</s:Label>",
+        "\n<fx:Script>public var n:int = 1;</fx:Script>\n",
         "<s:Button id=\"go\" click=\"trace(on)\"/>",
         "<s:Button id=\"go\" click=\"\"/>",
     ];
@@ -278,6 +279,23 @@ fn other_sources_are_not_yet_built(rt: HostRuntime) -> Result<(), Fail> {
         let left = perform(rt.alloc(), WORDS, "Main.mxml", elements, b"x")?;
         left.refuses(3, NOT_YET)?;
     }
+    Ok(())
+}
+
+#[test]
+fn the_first_fault_is_told_with_its_place(rt: HostRuntime) -> Result<(), Fail> {
+    let elements = "\n<fx:Script>public var n:int = \"x\";</fx:Script>\n<s:Label></s:Button>\n";
+    let left = perform(rt.alloc(), WORDS, "Main.mxml", elements, b"x")?;
+    left.refuses(3, "Main.mxml:3:10: WrongEnd\n")?;
+    Ok(())
+}
+
+#[test]
+fn a_source_stands_in_several_lines(rt: HostRuntime) -> Result<(), Fail> {
+    let elements =
+        "\r\n    <!-- one -->\r\n    <s:Label text='Hi'\n             id='greeting'></s:Label>\r\n";
+    let left = perform(rt.alloc(), WORDS, "Main.mxml", elements, b"")?;
+    left.shows(0, TRACE)?;
     Ok(())
 }
 
@@ -533,7 +551,7 @@ const SOURCE_TOO_LONG: &str = "Main.mxml: too long\n";
 
 #[test]
 fn sizes_of_sources(rt: HostRuntime) -> Result<(), Fail> {
-    perform_spaces(rt.alloc(), WORDS, 1_048_576, 0)?.refuses(3, NOT_YET)?;
+    perform_spaces(rt.alloc(), WORDS, 1_048_576, 0)?.refuses(3, "Main.mxml:1:1048577: NoRoot\n")?;
     perform_spaces(rt.alloc(), WORDS, 1_048_577, 0)?.refuses(10, SOURCE_TOO_LONG)?;
     Ok(())
 }

@@ -15,10 +15,10 @@ use Rattle.mxml_tree.specs.Reading.{RefusesItems, placed_in}
 use Rattle.mxml_tree.specs.Tree.{Elem}
 
 -- a text is what stands up to a place, and what stands from there on
-record IsCut (text : List ℕ) (end : ℕ) (rest : List ℕ) : Type 0 where
-  front : List ℕ
-  is : text ≡ front ++ rest
-  long : length front ≡ end
+pub record IsCut (text : List ℕ) (end : ℕ) (rest : List ℕ) : Type 0 where
+  pub front : List ℕ
+  pub is : text ≡ front ++ rest
+  pub long : length front ≡ end
 
 cut_items : (items : List Placed) (end : ℕ) (rest : List ℕ) (at : ℕ) (before text : List ℕ) → length before ≡ at → AreItems items end rest at text → IsCut (before ++ text) end rest
 cut_items [] end rest at before text long (ends, is) = record { front = before; is = ap (λ t. before ++ t) (sym is); long = long ∙ sym ends }
@@ -30,7 +30,7 @@ cut_items (placed ∷ items) end rest at before text long are =
     let cut = cut_items items end rest placed.end (before ++ b.bytes) are.rest (omega (arith, long, longer, whole, ends)) are.go_on in
     record { front = cut.front; is = ap (λ t. before ++ t) b.is ∙ sym (append_assoc before b.bytes are.rest) ∙ cut.is; long = cut.long }
 
-cut_text : (text begun : List ℕ) (items : List Placed) (end : ℕ) (rest : List ℕ) → IsBegun text begun → AreItems items end rest (length text - length begun) begun → IsCut text end rest
+pub cut_text : (text begun : List ℕ) (items : List Placed) (end : ℕ) (rest : List ℕ) → IsBegun text begun → AreItems items end rest (length text - length begun) begun → IsCut text end rest
 cut_text text begun items end rest (inl is) are =
     let long = ap length is ∙ length-append mark begun in
     subst (λ t. IsCut t end rest) (sym is) (cut_items items end rest (length text - length begun) mark begun (omega (arith, long)) are)

@@ -1,13 +1,16 @@
 -- A text has one tree or one first fault.
-use Rattle.std.proofs.Common.{◌≡◌, ◌⊎◌, ℕ, suc, ◌≤◌, List, [], Option, None, Some, length, inl, inr, refl, ap, sym, ◌∙◌, subst, true≢false, arith}
+use Rattle.std.proofs.Common.{◌≡◌, ◌⊎◌, ℕ, suc, ◌+◌, ◌-◌, ◌∷◌, ◌≤◌, List, [], Option, None, Some, length, inl, inr, refl, ap, sym, ◌∙◌, subst, true≢false, arith}
 use Rattle.std.proofs.lemmas.List.{take_all}
-use Rattle.std.specs.Prelude.{IsUtf8, is_some}
+use Rattle.std.specs.Prelude.{IsUtf8, is_some, option_map}
 use Rattle.std.specs.Str.{IsValidUpTo}
-use Rattle.mxml_tree.specs.Faults.{Fault, at_start, first_fault}
+use Rattle.mxml_items.specs.Items.{AreItems, Placed}
+use Rattle.mxml_tree.specs.declared.fault.TreeCode.{TreeCode}
+use Rattle.mxml_tree.specs.Faults.{Around, Fault, at_start, fault, fault_at_end, fault_of, first_fault, past}
 use Rattle.mxml_tree.specs.IsTree.{AreNodes, In_bytes, In_items, IsTree}
-use Rattle.mxml_tree.specs.Laws.{IsNeverBoth, IsOneFault, IsOneTree}
+use Rattle.mxml_tree.specs.Laws.{IsFaultWithin, IsNeverBoth, IsOneFault, IsOneTree}
 use Rattle.mxml_tree.specs.Namespaces.{at_first}
 use Rattle.mxml_tree.specs.Tree.{Node, Elem, Nodes, NoNode, MoreNode, table_of}
+use Rattle.mxml_items.proofs.TextLaws.{begun_is_short}
 use Rattle.mxml_tree.proofs.NoFault.{no_fault}
 use Rattle.mxml_tree.proofs.OneTree.{same_nodes}
 use Rattle.mxml_tree.proofs.SameItems.{consists_of_one}
@@ -71,3 +74,24 @@ never_both text nodes f has (In_items items end rest consists is) =
     ∙ ap (λ items. is_some (first_fault items at_start end rest)) same
     ∙ ap (λ rest. is_some (first_fault tree.items at_start end rest)) rests
     ∙ ap is_some (no_fault tree.at tree.element tree.nodes tree.items end root))
+
+-- the first fault of items stands at one of them, or where they end
+within_items : (items : List Placed) (around : Around) (end : ℕ) (rest : List ℕ) (at : ℕ) (text : List ℕ) (f : Fault) → AreItems items end rest at text → first_fault items around end rest ≡ Some f → f.at ≤ at + length text
+within_items [] around end rest at text f (ends, _) is = by (fault_at_end around rest) is
+  where
+    by : (found : Option TreeCode) → option_map (fault end) found ≡ Some f → f.at ≤ at + length text
+    by None none = absurd (true≢false (sym (ap is_some none)))
+    by (Some code) same = (let place = ap (λ o. (fault_or f o).at) same in omega (arith, place, ends))
+within_items (placed ∷ items) around end rest at text f are is =
+    by (fault_of placed.item around) is (λ rest_is. within_items items (past placed.item around) end rest placed.end are.rest f are.go_on rest_is)
+  where
+    by : (found : Option TreeCode) → elim found [ Some code ↦ Some (fault placed.at code) | None ↦ first_fault items (past placed.item around) end rest ] ≡ Some f → (first_fault items (past placed.item around) end rest ≡ Some f → f.at ≤ placed.end + length are.rest) → f.at ≤ at + length text
+    by (Some code) same later = (let place = ap (λ o. (fault_or f o).at) same in let stands = are.stands in omega (arith, place, stands))
+    by None same later = (let less = later same in let ends = are.ends in omega (arith, less, ends))
+
+pub fault_within : IsFaultWithin
+fault_within text f (In_bytes code place) = (let short = place.short in omega (arith, short))
+fault_within text f (In_items items end rest consists is) =
+    let less = within_items items at_start end rest (length text - length consists.begun) consists.begun f consists.are is in
+    let begun = begun_is_short text consists.begun consists.is_begun in
+    omega (arith, less, begun)

@@ -1,5 +1,5 @@
 -- Laws of trees and first faults.
-use Rattle.std.specs.Prelude.{◌≡◌, ℕ, List}
+use Rattle.std.specs.Prelude.{◌≡◌, ◌≤◌, ℕ, List, length}
 use Rattle.mxml_tree.specs.declared.tree.Node as Row
 use Rattle.mxml_tree.specs.Faults.{Fault}
 use Rattle.mxml_tree.specs.IsTree.{HasNodes, IsFirstFault}
@@ -15,3 +15,7 @@ IsOneFault = (text : List ℕ) (fault other : Fault) → IsFirstFault fault text
 -- and never both
 abbrev pub IsNeverBoth : Type 0
 IsNeverBoth = (text : List ℕ) (nodes : List Row.Node) (fault : Fault) → HasNodes text nodes → IsFirstFault fault text → ⊥
+
+-- a first fault stands in the text, or at its end
+abbrev pub IsFaultWithin : Type 0
+IsFaultWithin = (text : List ℕ) (fault : Fault) → IsFirstFault fault text → fault.at ≤ length text

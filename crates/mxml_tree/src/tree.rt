@@ -102,4 +102,11 @@ impl Tree {
     {
         self.nodes.get(n as usize)
     }
+
+    /// All nodes, in the order of the text.
+    pub fn nodes(&self) -> &[Node]
+        ensures { result.now ≡ self.now }
+    {
+        self.nodes.as_slice()
+    }
 }

@@ -309,7 +309,7 @@ pool-front p bytes w is rest =
     rw (
       first-front (table read_int) w (table-front grammar.IsS32 read_int IsInt int_is_read p.integers w.front w.first is.integers) rest,
       first-front empty_table r1 (empty_table-front grammar.IsU32 p.unsigned_integers r1.front r1.first is.unsigned_integers) rest,
-      first-front empty_table r2 (empty_table-front (λ double. grammar.Exactly (little_bytes 8 double)) p.doubles r2.front r2.first is.doubles) rest,
+      first-front empty_table r2 (empty_table-front grammar.IsDouble p.doubles r2.front r2.first is.doubles) rest,
       first-front (table read_string) r3 (table-front grammar.IsString read_string IsText string-front p.strings r3.front r3.first is.strings) rest,
       first-front (table read_namespace) r4 (table-front grammar.IsNamespace read_namespace IsNamespace namespace-front p.namespaces r4.front r4.first is.namespaces) rest,
       first-front empty_table r5 (empty_table-front (grammar.Counted grammar.IsU30) p.namespace_sets r5.front r5.first is.namespace_sets) rest,

@@ -86,7 +86,7 @@ pool-spelled p w =
     pool-joined p
     (table-spelled grammar.IsS32 int_bytes IsInt int_is_spelled p.integers w.integers)
     (empty_table-spelled grammar.IsU32 u30_bytes p.unsigned_integers w.unsigned_integers)
-    (empty_table-spelled (λ double. grammar.Exactly (little_bytes 8 double)) (little_bytes 8) p.doubles w.doubles)
+    (empty_table-spelled grammar.IsDouble (little_bytes 8) p.doubles w.doubles)
     (table-spelled grammar.IsString string_bytes_of IsText string-spelled p.strings w.strings)
     (table-spelled grammar.IsNamespace namespace_bytes IsNamespace namespace-spelled p.namespaces w.namespaces)
     (empty_table-spelled (grammar.Counted grammar.IsU30) (counted u30_bytes) p.namespace_sets w.namespace_sets)

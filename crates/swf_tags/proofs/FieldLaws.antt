@@ -29,7 +29,7 @@ split-front n front rest e =
     ∙ ap (λ l. Some (record { it = l; rest = drop n (front ++ rest) })) it
     ∙ ap (λ l. Some (record { it = front; rest = l })) behind
 
-abbrev taken : ℕ → List ℕ → Bool → Option (Front (List ℕ))
+abbrev pub taken : ℕ → List ℕ → Bool → Option (Front (List ℕ))
 taken n bytes t = if t then Some (record { it = take n bytes; rest = drop n bytes }) else None
 
 -- the parts of a split

@@ -1,8 +1,12 @@
 pub mod Texts
 pub mod Walks
 pub mod FieldLaws
+pub mod StreamLaws
 pub mod PartLaws
 pub mod TagLaws
 pub mod Written
 pub mod WholeLaws
+pub mod FeedLaws
+pub mod EarlyLaws
+pub mod StepLaws
 pub mod SwfLaws

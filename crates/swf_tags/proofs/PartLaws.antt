@@ -9,7 +9,8 @@ use Rattle.flex_base.specs.Split.{Split, Each}
 use Rattle.swf_tags.specs.Spelling.{zero_ended}
 use Rattle.swf_tags.specs.File.{AreBytes, Part, Pair, IsHeader, IsPart, IsName, IsDoAbc, IsPair, IsSymbolClass, first_of, main_of, main_in, header_bytes, size_limit}
 use Rattle.swf_tags.specs.Fields.{Front, split, number_of, number, name}
-use Rattle.swf_tags.specs.Reading.{Header, long_of, header_of, next_header, part_of, behind_header, next_part, behind_name, behind_flags, read_program, pair_named, pair_of, next_pair, and_then, read_pairs, read_symbols}
+use Rattle.swf_tags.specs.Reading.{long_of, header_of, next_header, part_of, behind_header, next_part, behind_name, behind_flags, read_program, pair_named, pair_of, next_pair, and_then, read_pairs, read_symbols}
+use Rattle.swf_tags.specs.declared.types.Header.{Header}
 use Rattle.swf_tags.proofs.FieldLaws.{split-front, split-gives, number-front, number-gives, name-front, name-gives, append-bytes}
 
 -- one part and another behind it

@@ -8,7 +8,8 @@ use Rattle.flex_base.specs.Split.{Split, Each}
 use Rattle.swf_tags.specs.Spelling.{end_tag, symbol_class, do_abc}
 use Rattle.swf_tags.specs.File.{AreBytes, Part, Pair, IsPart, EndsOnce, bodies, IsProgram, IsDoAbc, AreSymbols, IsSymbolClass, first_of, main_in, main_among, part_size, tag_at, tags_at}
 use Rattle.swf_tags.specs.Fields.{Front}
-use Rattle.swf_tags.specs.Reading.{next_part, read_program, read_symbols, Seen, with_program, with_symbols, with_body, ended, go_on, after_part, read_tags, fails}
+use Rattle.swf_tags.specs.Reading.{next_part, read_program, read_symbols, with_program, with_symbols, with_body, ended, go_on, after_part, read_tags, fails}
+use Rattle.swf_tags.specs.declared.types.Seen.{Seen}
 use Rattle.swf_tags.specs.declared.types.Fault.{Fault}
 use Rattle.swf_tags.specs.declared.types.Swf.{Swf}
 use Rattle.swf_tags.specs.declared.types.SwfReason.TheVariants as reason

@@ -5,7 +5,8 @@ use Rattle.std.proofs.lemmas.Bool.{eq-eqb, ne_eqb}
 use Rattle.swf_tags.specs.Fields.{Front}
 use Rattle.swf_tags.specs.Spelling.{end_tag}
 use Rattle.swf_tags.specs.File.{Part, header_size, part_size, tag_at}
-use Rattle.swf_tags.specs.Reading.{Seen, read_tags, read_pairs, next_part, with_body, after_part, ended, go_on, fails}
+use Rattle.swf_tags.specs.Reading.{read_tags, read_pairs, next_part, with_body, after_part, ended, go_on, fails}
+use Rattle.swf_tags.specs.declared.types.Seen.{Seen}
 use Rattle.swf_tags.specs.declared.types.SwfReason.TheVariants as reason
 use Rattle.swf_tags.specs.declared.types.Fault.{Fault}
 use Rattle.swf_tags.specs.declared.types.Swf.{Swf}

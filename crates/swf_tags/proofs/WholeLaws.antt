@@ -10,10 +10,11 @@ use Rattle.byteorder.specs.Endian.{little_bytes}
 use Rattle.flex_base.specs.Split.{Each}
 use Rattle.swf_tags.specs.File.{AreBytes, Part, IsPart, IsHeader, IsRectangle, IsSwf, header_bytes, rectangle_size, tags_at}
 use Rattle.swf_tags.specs.Fields.{Front, split, number}
-use Rattle.swf_tags.specs.Reading.{Head, before_tags, frame, behind_length, behind_signature, fitting, read_head, of_length, content, fails, nothing, read_tags, read_swf}
+use Rattle.swf_tags.specs.Reading.{Head, before_tags, frame, behind_length, behind_signature, fitting, signature_fault, behind_three, read_head, of_length, content, fails, nothing, read_tags, read_swf}
 use Rattle.swf_tags.specs.declared.types.Fault.{Fault}
 use Rattle.swf_tags.specs.declared.types.Swf.{Swf}
 use Rattle.swf_tags.specs.declared.types.Tag.{Tag}
+use Rattle.swf_tags.specs.declared.types.SwfReason.{SwfReason}
 use Rattle.swf_tags.specs.declared.types.SwfReason.TheVariants as reason
 use Rattle.swf_tags.proofs.FieldLaws.{split-front, split-gives, number-front, number-gives, append-bytes}
 use Rattle.swf_tags.proofs.TagLaws.{tags-read, tags-give}
@@ -135,7 +136,7 @@ unfolding read_head
 head-gives [] head are e = cc
 head-gives (first ∷ []) head are e = cc
 head-gives (first ∷ second ∷ []) head are e = cc
-head-gives (first ∷ second ∷ third ∷ bytes) head are e = by (first == 0x46 && second == 0x57 && third == 0x53) refl e
+head-gives (first ∷ second ∷ third ∷ bytes) head are e = by (signature_fault first second third) refl e
   where
     are_rest : AreBytes bytes
     are_rest = All-tail (λ byte. byte < 256) third bytes (All-tail (λ byte. byte < 256) second (third ∷ bytes) (All-tail (λ byte. byte < 256) first (second ∷ third ∷ bytes) are))
@@ -154,15 +155,19 @@ head-gives (first ∷ second ∷ third ∷ bytes) head are e = by (first == 0x46
         letters : first ≡ 0x46 → second ≡ 0x57 → third ≡ 0x53 → first ∷ second ∷ third ∷ bytes ≡ 0x46 ∷ 0x57 ∷ 0x53 ∷ bytes
         letters a b c = cc
 
-    neither : (t : Bool) → (if t then fails 0 reason.Compressed else fails 0 reason.NotFws) ≡ Ok head → SignatureStands head (first ∷ second ∷ third ∷ bytes)
-    neither true g = cc
-    neither false g = cc
+    signed : (t : Bool) → (first == 0x46 && second == 0x57 && third == 0x53) ≡ t
+        → (if t then None else if (first == 0x43 || first == 0x5A) && second == 0x57 && third == 0x53 then Some reason.Compressed else Some reason.NotFws) ≡ None
+        → (first == 0x46 && second == 0x57 && third == 0x53) ≡ true
+    signed true f g = f
+    signed false f g = neither ((first == 0x43 || first == 0x5A) && second == 0x57 && third == 0x53) g
+      where
+        neither : (t : Bool) → (if t then Some reason.Compressed else Some reason.NotFws) ≡ None → (first == 0x46 && second == 0x57 && third == 0x53) ≡ true
+        neither true g = cc
+        neither false g = cc
 
-    by : (t : Bool) → (first == 0x46 && second == 0x57 && third == 0x53) ≡ t
-        → (if t then fitting (behind_signature bytes) else if (first == 0x43 || first == 0x5A) && second == 0x57 && third == 0x53 then fails 0 reason.Compressed else fails 0 reason.NotFws) ≡ Ok head
-        → SignatureStands head (first ∷ second ∷ third ∷ bytes)
-    by true f g = fits (behind_signature bytes) refl g f
-    by false f g = neither ((first == 0x43 || first == 0x5A) && second == 0x57 && third == 0x53) g
+    by : (o : Option SwfReason) → signature_fault first second third ≡ o → behind_three o bytes ≡ Ok head → SignatureStands head (first ∷ second ∷ third ∷ bytes)
+    by (Some why) f g = cc
+    by None f g = fits (behind_signature bytes) refl g (signed (first == 0x46 && second == 0x57 && third == 0x53) refl f)
 
 -- what was read of the tags, and that the file has the length that it says
 record Whole (head : Head) (bytes : List ℕ) (swf : Swf) : Type 0 where

@@ -1,11 +1,14 @@
 -- What bytes say as a SWF file, or the first place at which they are none and the reason: the header comes first, then the tags in
 -- order up to End, and the length of the file last.
-use Rattle.std.specs.Prelude.{◌≡◌, ℕ, zero, suc, ◌+◌, ◌/◌, ◌%◌, ◌&&◌, ◌||◌, Bool, true, false, List, [], ◌∷◌, ◌++◌, length, if◌then◌else◌, ◌==◌, Option, Some, None, Result, Ok, Err, MatchResult}
+use Rattle.std.specs.Prelude.{◌≡◌, ℕ, zero, suc, ◌+◌, ◌/◌, ◌%◌, ◌&&◌, ◌||◌, Bool, true, false, List, [], ◌∷◌, ◌++◌, length, drop, if◌then◌else◌, ◌==◌, nat_le, Option, Some, None, Result, Ok, Err, MatchResult}
 use Rattle.std.specs.Option.{is_none}
+use Rattle.std.specs.Result.{is_ok}
 use Rattle.swf_tags.specs.Spelling.{end_tag, symbol_class, do_abc}
 use Rattle.swf_tags.specs.File.{Part, Pair, part_size, tag_at, first_of, main_of, rectangle_size}
 use Rattle.swf_tags.specs.Fields.{Front, split, number, name}
 use Rattle.swf_tags.specs.declared.types.Fault.{Fault}
+use Rattle.swf_tags.specs.declared.types.Header.{Header}
+use Rattle.swf_tags.specs.declared.types.Seen.{Seen}
 use Rattle.swf_tags.specs.declared.types.Swf.{Swf}
 use Rattle.swf_tags.specs.declared.types.SwfReason.{SwfReason}
 use Rattle.swf_tags.specs.declared.types.SwfReason.TheVariants as reason
@@ -15,12 +18,6 @@ use Rattle.swf_tags.specs.declared.types.Tag.{Tag}
 
 abbrev pub fails : {A : Type 0} → ℕ → SwfReason → Result A Fault
 fails place why = Err (record { place = place; reason = why })
-
--- a tag's header: its code, whether it is the long one, and the length of the body
-pub record Header : Type 0 where
-  pub code : ℕ
-  pub long : Bool
-  pub length : ℕ
 
 abbrev pub long_of : ℕ → Option (Front ℕ) → Option (Front Header)
 long_of code None = None
@@ -87,11 +84,7 @@ read_pairs (suc k) main bytes = and_then (next_pair bytes) (λ it rest. read_pai
 unfoldable pub read_symbols : List ℕ → Option (Option (List ℕ))
 read_symbols body = and_then (number 2 body) (λ count rest. read_pairs count None rest)
 
--- what the tags so far gave: the ABC, and the name of the main class
-pub record Seen : Type 0 where
-  pub abc : Option (List ℕ)
-  pub main : Option (List ℕ)
-
+-- before the first tag
 abbrev pub nothing : Seen
 nothing = record { abc = None; main = None }
 
@@ -163,13 +156,20 @@ fitting None = fails 3 reason.Rect
 fitting (Some head) = Ok head
 
 -- `FWS` begins a file, and `CWS` or `ZWS` a compressed one
-unfoldable pub read_head : List ℕ → Result Head Fault
-read_head (first ∷ second ∷ third ∷ bytes) =
+abbrev pub signature_fault : ℕ → ℕ → ℕ → Option SwfReason
+signature_fault first second third =
     if first == 0x46 && second == 0x57 && third == 0x53
-    then fitting (behind_signature bytes)
+    then None
     else if (first == 0x43 || first == 0x5A) && second == 0x57 && third == 0x53
-    then fails 0 reason.Compressed
-    else fails 0 reason.NotFws
+    then Some reason.Compressed
+    else Some reason.NotFws
+
+abbrev pub behind_three : Option SwfReason → List ℕ → Result Head Fault
+behind_three None bytes = fitting (behind_signature bytes)
+behind_three (Some why) bytes = fails 0 why
+
+unfoldable pub read_head : List ℕ → Result Head Fault
+read_head (first ∷ second ∷ third ∷ bytes) = behind_three (signature_fault first second third) bytes
 read_head _ = fails 0 reason.NotFws
 
 abbrev pub of_length : ℕ → ℕ → Result Swf Fault → Result Swf Fault
@@ -195,15 +195,41 @@ fault_of (Err fault) = Some fault
 abbrev pub swf_fault : List ℕ → Option Fault
 swf_fault bytes = fault_of (read_swf bytes)
 
+-- the tag at this place is there as a whole
+abbrev pub is_whole : List ℕ → ℕ → Bool
+is_whole bytes place = is_ok (next_part place (drop place bytes))
+
+-- whether this first fault of the bytes is in bytes that are there, so that no further byte takes it away; the length of the file isn't
+-- looked at before its end
+abbrev pub is_early : List ℕ → ℕ → SwfReason → Bool
+is_early bytes place reason.Compressed = nat_le 3 (length bytes)
+is_early bytes place reason.NotFws = nat_le 3 (length bytes)
+is_early bytes place reason.Rect = false
+is_early bytes place reason.NoEnd = false
+is_early bytes place reason.TagHeader = false
+is_early bytes place reason.TagBody = is_whole bytes place
+is_early bytes place reason.TwoAbc = true
+is_early bytes place reason.NoAbc = true
+is_early bytes place reason.NoMain = true
+is_early bytes place reason.Length = false
+
+abbrev pub early_of : List ℕ → Option Fault → Option Fault
+early_of bytes None = None
+early_of bytes (Some fault) = if is_early bytes fault.place fault.reason then Some fault else None
+
+-- the first fault of the bytes, where it is early
+abbrev pub early : List ℕ → Option Fault
+early bytes = early_of bytes (swf_fault bytes)
+
 -- an answer of the code is what the reading gives, seen so, or its fault
 abbrev pub Tells : {A B : Type 0} → Result A Fault → (B → A) → Result B Fault → Type 0
 Tells reading view result = MatchResult result (λ x. reading ≡ Ok (view x)) (λ fault. reading ≡ Err fault)
 
 -- the reading may be refused so: for want of memory whatever the bytes are
-abbrev pub Refuses : Result Swf Fault → SwfRefusal → Type 0
+abbrev pub Refuses : {A : Type 0} → Result A Fault → SwfRefusal → Type 0
 Refuses reading (refusal.BadSwf place why) = reading ≡ Err (record { place = place; reason = why })
 Refuses reading refusal.NoMemory = Unit {0}
 
--- an answer for a whole file is what the reading gives, or its fault, or that memory was refused
-abbrev pub Answers : Result Swf Fault → Result Swf SwfRefusal → Type 0
-Answers reading result = MatchResult result (λ swf. reading ≡ Ok swf) (λ refusal. Refuses reading refusal)
+-- an answer is what the reading gives, or its fault, or that memory was refused
+abbrev pub Answers : {A : Type 0} → Result A Fault → Result A SwfRefusal → Type 0
+Answers reading result = MatchResult result (λ x. reading ≡ Ok x) (λ refusal. Refuses reading refusal)

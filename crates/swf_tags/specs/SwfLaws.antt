@@ -1,9 +1,10 @@
 -- What holds of the reading and the writing of SWF files.
-use Rattle.std.specs.Prelude.{◌≡◌, ◌≢◌, ◌⊎◌, ℕ, ◌+◌, ◌≤◌, List, length, All, Some, None, Ok}
+use Rattle.std.specs.Prelude.{◌≡◌, ◌≢◌, ◌⊎◌, ℕ, ◌+◌, ◌≤◌, List, ◌++◌, length, All, Some, None, Ok}
 use Rattle.std.specs.Str.{IsUtf8}
 use Rattle.swf_tags.specs.Spelling.{swf_bytes}
 use Rattle.swf_tags.specs.File.{AreBytes, IsSwf, written_tags}
-use Rattle.swf_tags.specs.Reading.{read_swf, swf_fault}
+use Rattle.swf_tags.specs.Reading.{early, read_swf, swf_fault}
+use Rattle.swf_tags.specs.Feeding.{Progress, early_fault, fed, finished, start}
 use Rattle.swf_tags.specs.declared.types.Fault.{Fault}
 use Rattle.swf_tags.specs.declared.types.Swf.{Swf}
 
@@ -37,3 +38,19 @@ abbrev pub SwfIsReadBack : Type 0
 SwfIsReadBack =
     (main abc : List ℕ) → All (λ byte. byte ≢ 0) main → IsUtf8 main → length main + length abc ≤ 2000000000
     → read_swf (swf_bytes main abc) ≡ Ok (record { version = 10; tags = written_tags main abc; abc = abc; main = main })
+
+-- bytes that are fed one after another, and then no more, are read as the whole
+abbrev pub FedIsRead : Type 0
+FedIsRead = (bytes : List ℕ) → finished (fed start bytes) ≡ read_swf bytes
+
+-- pieces that are fed one behind another are fed as one
+abbrev pub FedInPieces : Type 0
+FedInPieces = (progress : Progress) (first second : List ℕ) → fed progress (first ++ second) ≡ fed (fed progress first) second
+
+-- the fault that is known when these bytes are fed is their first fault, where that is early
+abbrev pub EarlyIsKnown : Type 0
+EarlyIsKnown = (bytes : List ℕ) → early_fault (fed start bytes).stage ≡ early bytes
+
+-- an early fault is the first fault of each file that begins so
+abbrev pub EarlyFaultStays : Type 0
+EarlyFaultStays = (bytes more : List ℕ) (fault : Fault) → early bytes ≡ Some fault → swf_fault (bytes ++ more) ≡ Some fault

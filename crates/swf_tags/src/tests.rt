@@ -1,7 +1,11 @@
 // Files that the format's rules give byte for byte.
 
-use super::{SwfReason, SwfRefusal, Tag, read_swf, write_swf};
+ghost use Rattle.std.specs.Prelude.{◌<◌};
+
+use super::{Swf, SwfPush, SwfReason, SwfRefusal, Tag, read_swf, write_swf};
 use flex_base::Text;
+use std::alloc::Global;
+use std::process::Abort;
 use std::test::Fail;
 
 // What stands before the length, and from there to the length of DoABC.
@@ -259,5 +263,62 @@ fn written_files_are_read_whole_and_not_cut(rt: HostRuntime) -> Result<(), Fail>
     let cut = written.as_slice().get(..50).ok_or("a short file")?;
     let refusal = read_swf(rt.alloc(), cut).err().ok_or("a file")?;
     assert_eq!(rt; refusal, SwfRefusal::BadSwf(32, SwfReason::TagBody));
+    Ok(())
+}
+
+// Feeds a piece.
+fn feed(rt: &impl Abort, push: &mut SwfPush, piece: &[u8]) -> Result<(), SwfRefusal> {
+    let room = u32::MAX - push.fed();
+    assert!(rt; piece.len() <= room as usize);
+    push.feed(piece)
+}
+
+#[test]
+fn a_compressed_file_is_refused_at_its_third_byte(rt: HostRuntime) -> Result<(), Fail> {
+    let compressed = Err(SwfRefusal::BadSwf(0, SwfReason::Compressed));
+    let mut push = SwfPush::new(rt.alloc());
+    assert_eq!(rt; feed(&rt, &mut push, &[0x43]), Ok(()));
+    assert_eq!(rt; feed(&rt, &mut push, &[0x57]), Ok(()));
+    assert_eq!(rt; feed(&rt, &mut push, &[0x53]), compressed);
+    assert_eq!(rt; push.fed(), 2);
+    assert_eq!(rt; feed(&rt, &mut push, &[0x53]), compressed);
+    assert_eq!(rt; feed(&rt, &mut push, &[]), compressed);
+    assert_eq!(rt; push.fed(), 2);
+    assert_eq!(rt; push.finish().err(), compressed.err());
+    Ok(())
+}
+
+// What a file says that comes in pieces of so many bytes.
+fn read_in_pieces(
+    rt: &impl Abort,
+    alloc: Global,
+    bytes: &[u8],
+    size: usize,
+) -> Result<Swf, SwfRefusal>
+    requires { 0 < size }
+{
+    let mut push = SwfPush::new(alloc);
+    for piece in bytes.chunks(size) {
+        feed(rt, &mut push, piece)?;
+    }
+    push.finish()
+}
+
+#[test]
+fn files_in_pieces_are_read_as_the_whole(rt: HostRuntime) -> Result<(), Fail> {
+    for size in [1, 2, 7] {
+        let swf = read_in_pieces(&rt, rt.alloc(), OTHER_FORMS, size).map_err(|_| "no file")?;
+        assert_eq!(rt; swf.version, 6);
+        assert_eq!(rt; swf.tags.as_slice(), TAGS_OF_OTHER_FORMS);
+        assert_eq!(rt; swf.abc.as_slice(), [0x2E].as_slice());
+        assert_eq!(rt; swf.main.as_str(), "C");
+        for bad in BAD {
+            let answer = read_in_pieces(&rt, rt.alloc(), bad.bytes, size);
+            assert_eq!(rt;
+                answer.err(),
+                Some(SwfRefusal::BadSwf(bad.place, bad.reason))
+            );
+        }
+    }
     Ok(())
 }

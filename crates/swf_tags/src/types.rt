@@ -94,3 +94,23 @@ impl From<Fault> for SwfRefusal {
         SwfRefusal::BadSwf(fault.place, fault.reason)
     }
 }
+
+/// A tag's header. SWF File Format Specification, version 19, "Tag format".
+#[derive(Clone, Copy, Debug, PartialEq, Eq)]
+pub struct Header {
+    /// What kind of tag it is.
+    pub code: u16,
+    /// Whether the length stands behind the first two bytes.
+    pub long: bool,
+    /// The number of bytes of the body.
+    pub length: u32,
+}
+
+/// What the tags so far gave.
+#[derive(Drop)]
+pub struct Seen {
+    /// The program: the ABC of the DoABC, where it came.
+    pub abc: Option<Bytes>,
+    /// The name of the main class, where a SymbolClass had it.
+    pub main: Option<Text>,
+}

@@ -1,79 +1,135 @@
-// The parts of a source: what an element is made of, as it stands in the text.
+// The parts of a source: what an element is made of, as its tag says it.
 
-ghost use Rattle.std.specs.Prelude.{◌≡◌, ◌≢◌, ◌++◌, ◌∷◌, ℕ, List, MatchOption};
-ghost use Rattle.flex_front.specs.Source.{IsId, IsText};
-ghost use Rattle.flex_front.specs.Parts.{element_of, BeginsWith, HasNoElement, HasNoLabel, HasNoButton, IsMark, IsPart, HasNoPart, Lacks, SplitsAt};
+ghost use Rattle.std.specs.Prelude.{◌≡◌, ◌↔◌, IsTrue, MatchOption, codes, length, option_map};
+ghost use Rattle.flex_front.specs.Parts.{HasNoPart, HasNoRow, HasNoText, IsFineRow, IsPartOf, element_of};
+ghost use Rattle.flex_front.specs.Source.{IsApplication, call_of, is_named, value_of};
 
 use crate::words::{is_id, is_text};
+use mxml_tree::{Attribute, Element, Node, NodeKind};
 
-// An element whose texts stand in the source.
+const SPARK: &str = "library://ns.adobe.com/flex/spark";
+
+// An element whose texts stand in the tree.
+#[derive(Clone, Copy)]
 pub enum Part<'a> {
     Label { id: &'a str, text: &'a str },
     Button { id: &'a str, click: Option<&'a str> },
 }
 
-// The element that a text begins with, and what stands behind it.
-pub fn read_part(text: &str) -> Option<(Part<'_>, &str)>
-    ensures { MatchOption result (HasNoElement text.now) (λ r. BeginsWith text.now (element_of r.0) r.1.now) }
+// Whether a node is an Application without attributes.
+pub fn is_application(node: &Node) -> bool
+    ensures { IsTrue result ↔ IsApplication node.now }
 {
-    if let Some(found) = read_label(text) {
-        return Some(found);
+    match &node.kind {
+        NodeKind::Element(tag) => {
+            tag.space.as_str() == SPARK
+                && tag.local.as_str() == "Application"
+                && tag.attributes.len() == 0
+        }
+        NodeKind::Characters(_) => false,
     }
-    read_button(text)
 }
 
-// The Label that a text begins with, and what stands behind it.
-fn read_label(text: &str) -> Option<(Part<'_>, &str)>
-    ensures { MatchOption result (HasNoLabel text.now) (λ r. BeginsWith text.now (element_of r.0) r.1.now) }
+// The element that a node is, directly in the root.
+pub fn read_part(node: &Node) -> Option<Part<'_>>
+    ensures { MatchOption result (HasNoRow node.now) (λ part. IsFineRow node.now (element_of part)) }
 {
-    let (id, after_id) = id_part(text, "<s:Label id=\"")?;
-    let (text, after_text) = text_part(after_id, " text=\"", '"')?;
-    let rest = behind(after_text, "/>")?;
-    Some((Part::Label { id, text }, rest))
+    let NodeKind::Element(tag) = &node.kind else {
+        return None;
+    };
+    if node.parent != Some(0) || tag.space.as_str() != SPARK {
+        return None;
+    }
+    read_tag(tag)
 }
 
-// The Button that a text begins with, and what stands behind it.
-fn read_button(text: &str) -> Option<(Part<'_>, &str)>
-    ensures { MatchOption result (HasNoButton text.now) (λ r. BeginsWith text.now (element_of r.0) r.1.now) }
+// The element that a tag says.
+fn read_tag(tag: &Element) -> Option<Part<'_>>
+    ensures { MatchOption result (HasNoPart tag.now) (λ part. IsPartOf tag.now (element_of part)) }
 {
-    let (id, after_id) = id_part(text, "<s:Button id=\"")?;
-    if let Some(rest) = behind(after_id, "/>") {
-        return Some((Part::Button { id, click: None }, rest));
+    match tag.local.as_str() {
+        "Label" => read_label(tag),
+        "Button" => read_button(tag),
+        _ => None,
     }
-    let (text, after_text) = text_part(after_id, " click=\"trace('", '\'')?;
-    let rest = behind(after_text, ")\"/>")?;
+}
+
+// The Label that a tag says.
+fn read_label(tag: &Element) -> Option<Part<'_>>
+    requires { tag.now.local ≡ codes "Label" }
+    ensures { MatchOption result (HasNoPart tag.now) (λ part. IsPartOf tag.now (element_of part)) }
+{
+    if tag.attributes.len() != 2 {
+        return None;
+    }
+    let id = value(tag, "id")?;
+    let text = value(tag, "text")?;
+    (is_id(id) && is_text(text)).then_some(Part::Label { id, text })
+}
+
+// The Button that a tag says.
+fn read_button(tag: &Element) -> Option<Part<'_>>
+    requires { tag.now.local ≡ codes "Button" }
+    ensures { MatchOption result (HasNoPart tag.now) (λ part. IsPartOf tag.now (element_of part)) }
+{
+    match tag.attributes.len() {
+        1 => read_plain_button(tag),
+        2 => read_clicked_button(tag),
+        _ => None,
+    }
+}
+
+// The Button without a handler that a tag with one attribute says.
+fn read_plain_button(tag: &Element) -> Option<Part<'_>>
+    requires is_button { tag.now.local ≡ codes "Button" }
+    requires one { length tag.now.attributes ≡ 1 }
+    ensures { MatchOption result (HasNoPart tag.now) (λ part. IsPartOf tag.now (element_of part)) }
+{
+    let id = value(tag, "id")?;
+    is_id(id).then_some(Part::Button { id, click: None })
+}
+
+// The Button with a handler that a tag with two attributes says.
+fn read_clicked_button(tag: &Element) -> Option<Part<'_>>
+    requires is_button { tag.now.local ≡ codes "Button" }
+    requires two { length tag.now.attributes ≡ 2 }
+    ensures { MatchOption result (HasNoPart tag.now) (λ part. IsPartOf tag.now (element_of part)) }
+{
+    let id = value(tag, "id")?;
+    let call = value(tag, "click")?;
+    let text = traced_text(call)?;
+    if !is_id(id) {
+        return None;
+    }
+    if !is_text(text) {
+        return None;
+    }
     let click = Some(text);
-    Some((Part::Button { id, click }, rest))
+    Some(Part::Button { id, click })
 }
 
-// The id between a text's beginning and a quotation mark, and what stands behind the mark.
-fn id_part<'a>(text: &'a str, beginning: &str) -> Option<(&'a str, &'a str)>
-    ensures { MatchOption result (HasNoPart IsId beginning.now 34 text.now) (λ r. IsPart IsId beginning.now 34 text.now r.0.now r.1.now) }
+// The text that a call of `trace` traces.
+fn traced_text(call: &str) -> Option<&str>
+    ensures { MatchOption result (HasNoText call.now) (λ text. call.now ≡ call_of text.now) }
 {
-    let (id, rest) = around(behind(text, beginning)?, '"')?;
-    is_id(id).then_some((id, rest))
+    call.strip_prefix("trace('")?.strip_suffix("')")
 }
 
-// The text between a text's beginning and a mark, and what stands behind the mark.
-fn text_part<'a>(text: &'a str, beginning: &str, mark: char) -> Option<(&'a str, &'a str)>
-    requires { IsMark mark }
-    ensures { MatchOption result (HasNoPart IsText beginning.now mark text.now) (λ r. IsPart IsText beginning.now mark text.now r.0.now r.1.now) }
+// The value of an attribute in no namespace.
+fn value<'a>(tag: &'a Element, name: &str) -> Option<&'a str>
+    ensures { option_map (λ value. value.now) result ≡ value_of name.now tag.now.attributes }
 {
-    let (value, rest) = around(behind(text, beginning)?, mark)?;
-    is_text(value).then_some((value, rest))
+    for attribute in tag.attributes.as_slice() {
+        if is_named(attribute, name) {
+            return Some(attribute.value.as_str());
+        }
+    }
+    None
 }
 
-// What stands behind a text's beginning.
-pub fn behind<'a>(text: &'a str, beginning: &str) -> Option<&'a str>
-    ensures { MatchOption result ((rest : List ℕ) → text.now ≢ beginning.now ++ rest) (λ rest. text.now ≡ beginning.now ++ rest.now) }
+// Whether an attribute is in no namespace and has this name.
+fn is_named(attribute: &Attribute, name: &str) -> bool
+    ensures { result ≡ is_named name.now attribute.now }
 {
-    text.strip_prefix(beginning)
-}
-
-// What stands before and behind the first such mark.
-fn around(text: &str, mark: char) -> Option<(&str, &str)>
-    requires { IsMark mark }
-    ensures { MatchOption result (Lacks mark text.now) (λ r. SplitsAt mark text.now r.0.now r.1.now) }
-{
-    text.split_once(mark)
+    attribute.space.as_str() == "" && attribute.local.as_str() == name
 }

@@ -1,35 +1,32 @@
-use Rattle.std.proofs.Common.{rules, ◌≡◌, ◌≢◌, length, ◌++◌, ◌∷◌, [], sym, Err}
-use Rattle.flex_front.specs.Source.{id_of, IsNewId, closing}
+use Rattle.std.proofs.Common.{rules, ◌≡◌, ◌≢◌, ◌++◌, ◌∷◌, [], ◌∙◌, length, sym}
+use Rattle.std.proofs.lemmas.Result.{err_from_is_err_and}
+use Rattle.flex_front.specs.Source.{IsNewId, id_of}
+use Rattle.flex_front.proofs.Rows.{all_read, more_read, none_read, not_new, refused_row, too_many}
 use Rattle.flex_front.proofs.reading.read_elements.Goals as goal
-use Rattle.flex_front.proofs.Lists.{begin_more, no_next, not_new, too_many}
+
+pub loop-row-init : goal.loop-row-init
+loop-row-init c = rw c.new-elements.ensures (none_read c.args.rows.now)
 
 pub returns-then-len-eq-MOST_ELEMENTS-clause-refused : goal.returns-then-len-eq-MOST_ELEMENTS-clause-refused
 returns-then-len-eq-MOST_ELEMENTS-clause-refused c =
-    let unended : c.loop-rest.rest.now ≢ closing = search rules in
-    let full : length c.loop-rest.elements ≡ 100 = search rules in
-    λ _. too_many _ _ _ c.loop-rest.invariant.0 unended full
+    too_many c.args.rows.now c.loop-row.row-index c.row-item.result c.loop-row.elements c.loop-row-test.true c.row-item.is c.loop-row.invariant (sym c.len.ensures ∙ c.if-len-eq-MOST_ELEMENTS.true)
 
 pub returns-in_err-element-clause-refused : goal.returns-in_err-element-clause-refused
 returns-in_err-element-clause-refused c =
-    let unended : c.loop-rest.rest.now ≢ closing = search rules in
-    let is : c.from_residual.result ≡ Err c.in_err-element.field-0.0 = search rules in
-    rw is (λ not_built. no_next _ _ _ c.loop-rest.invariant.0 unended (c.in_err-element.ensures.refused not_built))
+    let p = err_from_is_err_and c.from_residual.result c.from_residual.ensures.1 in
+    rw (p.1, p.2) (refused_row c.args.rows.now c.loop-row.row-index c.row-item.result c.loop-row.elements c.in_err-element.field-0.0 c.loop-row-test.true c.row-item.is c.loop-row.invariant c.in_err-element.ensures.refused)
 
 pub returns-then-not-is_new-clause-refused : goal.returns-then-not-is_new-clause-refused
 returns-then-not-is_new-clause-refused c =
-    let unended : c.loop-rest.rest.now ≢ closing = search rules in
-    let wrong : IsNewId (id_of c.in_ok-element.element) c.loop-rest.elements → ⊥ = search rules in
-    λ _. not_new _ _ _ _ _ c.loop-rest.invariant.0 unended c.in_ok-element.ensures.found wrong
+    let wrong : IsNewId (id_of c.in_ok-element.element) c.loop-row.elements → ⊥ = search rules in
+    not_new c.args.rows.now c.loop-row.row-index c.row-item.result c.loop-row.elements c.in_ok-element.element c.loop-row-test.true c.row-item.is c.loop-row.invariant c.in_ok-element.ensures.found wrong
 
-pub loop-rest-preserved : goal.loop-rest-preserved
-loop-rest-preserved c =
-    let few : length c.loop-rest.elements ≢ 100 = search rules in
-    let new : IsNewId (id_of c.in_ok-element.element) c.loop-rest.elements = search rules in
-    let more = begin_more _ _ _ _ _ c.loop-rest.invariant.0 c.in_ok-element.ensures.found few new in
-    let pushed : c.push.new.self ≡ c.loop-rest.elements ++ c.in_ok-element.element ∷ [] = search rules in
-    (rw pushed more, search rules)
+pub loop-row-preserved : goal.loop-row-preserved
+loop-row-preserved c =
+    let few : length c.loop-row.elements ≢ 100 = search rules in
+    let new : IsNewId (id_of c.in_ok-element.element) c.loop-row.elements = search rules in
+    let pushed : c.push.new.self ≡ c.loop-row.elements ++ c.in_ok-element.element ∷ [] = search rules in
+    rw pushed (more_read c.args.rows.now c.loop-row.row-index c.row-item.result c.loop-row.elements c.in_ok-element.element c.loop-row-test.true c.row-item.is c.loop-row.invariant c.in_ok-element.ensures.found few new)
 
 pub returns-clause-found : goal.returns-clause-found
-returns-clause-found c =
-    let ended : c.loop-rest.rest.now ≡ closing = search rules in
-    rw (sym ended) c.loop-rest.invariant.0
+returns-clause-found c = all_read c.args.rows.now c.loop-row.row-index c.loop-row.elements c.loop-row-test.false c.loop-row.invariant

@@ -1,0 +1,17 @@
+pub mod GoingOn
+pub mod SmallPrograms
+pub mod FinePrograms
+pub mod Holding
+pub mod Keeping
+pub mod Operations
+pub mod Changing
+pub mod Kept
+pub mod Acting
+pub mod Writing
+pub mod Calling
+pub mod Evaluating
+pub mod Executing
+pub mod Inside
+pub mod Built
+pub mod Stated
+pub mod Sound

@@ -1,0 +1,4 @@
+pub mod ClassLaws
+pub mod Inverted
+pub mod Facts
+pub mod Kept

@@ -1,0 +1,5 @@
+pub mod Program
+pub mod Classes
+pub mod Instances
+pub mod Fine
+pub mod Laws

@@ -1,0 +1,4 @@
+//! What the world of a source and the stage of a machine share: the objects of a play with their
+//! fields, listeners and children, the types of places, and the pure functions on them. Definitions
+//! alone.
+#![tactic(auto)]

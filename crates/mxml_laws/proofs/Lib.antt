@@ -1,0 +1,12 @@
+pub mod Encodings
+pub mod Fronts
+pub mod References
+pub mod Names
+pub mod Attributes
+pub mod Items
+pub mod Meanings
+pub mod Tags
+pub mod Texts
+pub mod Insides
+pub mod Roots
+pub mod TreeOrFault
