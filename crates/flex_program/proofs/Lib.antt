@@ -2,3 +2,4 @@ pub mod ClassLaws
 pub mod Inverted
 pub mod Facts
 pub mod Kept
+pub mod Trees

@@ -3,3 +3,7 @@ pub mod Classes
 pub mod Instances
 pub mod Fine
 pub mod Laws
+pub mod CodeTerms
+pub mod DocumentTerms
+pub mod ProgramTerms
+pub mod Forms
