@@ -14,7 +14,7 @@ use Rattle.flex_base.specs.declared.value.Value.{Value}
 use Rattle.flex_base.specs.declared.value.Value.TheVariants as value
 use Rattle.component_catalog.specs.declared.class.NativeClass.TheVariants as native
 use Rattle.flex_world.specs.Classes.{Class, StaticType}
-use Rattle.flex_world.specs.Events.{event_path, fits_phase, hearers, insert_by_priority, is_before_bubbling, listener_of, same_registration, with_registration, without_registration}
+use Rattle.flex_world.specs.Events.{closed_delivery, event_path, fits_phase, hearers, insert_by_priority, is_before_bubbling, listener_of, opened_delivery, same_registration, with_registration, without_registration}
 use Rattle.flex_world.specs.Objects.{Delivery, Instance_of, Keeping, Kind, Listener, Object, Registration, ancestors_of, count, is_true, object_at, parent_of, property, text_in}
 use Rattle.flex_program.proofs.ClassLaws.{both_true}
 use Rattle.flex_program.proofs.Facts.{CanRun, event_bubbles, event_cancelable, event_current, event_phase, event_target, event_type_kept}
@@ -156,13 +156,13 @@ module _ (p : Program) where
 
     opened_from : (target e : ObjId) (cancelable : Bool) (w : World) → IsEvent w.objects e → Exists w.objects target → Typed p w → From p w.objects (open_dispatch target e cancelable w)
     opened_from target e cancelable w h t ty =
-        let f = delivery_from e (λ d. record d { dispatched = true; is_open = true; cancelable = cancelable }) w ty in
-        from_then p f (set_from p fine e event_class (codes "target") StaticType.Any (value.Ref target) (change_delivery e (λ d. record d { dispatched = true; is_open = true; cancelable = cancelable }) w) (isa_later p f.later h) (event_target p fine) refl (T_any _ (A_ref target t.kind (f.later.kinds target t.kind t.at))) f.typed)
+        let f = delivery_from e (opened_delivery cancelable) w ty in
+        from_then p f (set_from p fine e event_class (codes "target") StaticType.Any (value.Ref target) (change_delivery e (opened_delivery cancelable) w) (isa_later p f.later h) (event_target p fine) refl (T_any _ (A_ref target t.kind (f.later.kinds target t.kind t.at))) f.typed)
 
     closed_from : (e : ObjId) (w : World) → IsEvent w.objects e → Typed p w → From p w.objects (close_dispatch e w)
     closed_from e w h ty =
-        let f = delivery_from e (λ d. record d { is_open = false; answer = d.prevented }) w ty in
-        from_then p f (arrival_from e value.Null 0 (change_delivery e (λ d. record d { is_open = false; answer = d.prevented }) w) (isa_later p f.later h) A_null f.typed)
+        let f = delivery_from e closed_delivery w ty in
+        from_then p f (arrival_from e value.Null 0 (change_delivery e closed_delivery w) (isa_later p f.later h) A_null f.typed)
 
     module _ (n : ℕ) (does : Does) (law : Kept p does) where
       abbrev c : Context

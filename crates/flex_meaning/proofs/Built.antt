@@ -8,6 +8,7 @@ use Rattle.flex_base.specs.declared.value.Value.{Value}
 use Rattle.flex_base.specs.declared.value.Value.TheVariants as value
 use Rattle.component_catalog.specs.declared.class.NativeClass.TheVariants as native
 use Rattle.flex_world.specs.Classes.{Class, is_component, is_container, same_class}
+use Rattle.flex_world.specs.Events.{registration}
 use Rattle.flex_world.specs.Objects.{An_array, Instance_of, Object, watcher}
 use Rattle.flex_program.proofs.ClassLaws.{both_true, held, same_class_is, text_itself}
 use Rattle.flex_program.proofs.Facts.{above, base_above, container_component, descends_itself}
@@ -30,7 +31,6 @@ use Rattle.flex_meaning.specs.Activities.{Context, Does}
 use Rattle.flex_meaning.specs.Building.{apply_attribute, bindings_where, build, build_contents, build_declarations, build_document, build_given, build_instance, build_items, build_of_state, build_root, by_presence, declared_spot, enable_all, enter_initial, numbers_from, register, start_bindings_of, write_id}
 use Rattle.flex_meaning.specs.Changes.{state_named}
 use Rattle.flex_meaning.specs.Expressions.{literal_value}
-use Rattle.flex_meaning.specs.Natives.{registration}
 use Rattle.flex_meaning.specs.Results.{Result, done, each}
 use Rattle.flex_meaning.specs.Storing.{start}
 use Rattle.flex_meaning.specs.Tasks.{context}

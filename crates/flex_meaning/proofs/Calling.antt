@@ -22,6 +22,7 @@ use Rattle.flex_world.specs.Children.{child_at}
 use Rattle.flex_world.specs.Classes.{Class, StaticType, descends, native_descends, static_type}
 use Rattle.flex_world.specs.Conversions.{accepts, constructor_parameters, event_parameters, left_out}
 use Rattle.flex_world.specs.Making.{start_value}
+use Rattle.flex_world.specs.Events.{delivery_stopped_at_once, prevented_delivery, registration, stopped_delivery, while_open}
 use Rattle.flex_world.specs.Objects.{Delivery, Instance_of, Object, class_of_kind, object_at, object_class, property, text_in}
 use Rattle.flex_program.proofs.ClassLaws.{both_true, fine_class, held}
 use Rattle.flex_program.proofs.Facts.{CanRun, above, base_above, callee_down, descends_itself, event_type_kept, kept_down, property_of_kept}
@@ -43,7 +44,7 @@ use Rattle.flex_meaning.specs.Dispatch.{dispatch, set_event}
 use Rattle.flex_meaning.specs.Elements.{take_out}
 use Rattle.flex_meaning.specs.Expressions.{call, find_method}
 use Rattle.flex_meaning.specs.Making.{begin_event, construct, constructor_arguments, lacks_type, make, prepare}
-use Rattle.flex_meaning.specs.Natives.{add_listener, call_alone, call_native, call_with_object, call_with_one, dispatch_given, get_element, is_it, mark, object_given, registration, remove_element, remove_listener, type_given}
+use Rattle.flex_meaning.specs.Natives.{add_listener, call_alone, call_native, call_with_object, call_with_one, dispatch_given, get_element, is_it, mark, object_given, remove_element, remove_listener, type_given}
 use Rattle.flex_meaning.specs.Results.{Goes, bind, choose, done, stops}
 use Rattle.flex_meaning.specs.Tasks.{context}
 use Rattle.flex_meaning.specs.World.{World, change_delivery, listen, unlisten}
@@ -221,7 +222,7 @@ module _ (p : Program) where
   remove_safe node w k _ i (T_bool b) ty = absurd (true≢false (sym i))
 
   mark_safe : (e : ObjId) (f : Delivery → Delivery) (w : World) → Typed p w → Safe p false w.objects (mark e f w) (λ v os. OfType p os v StaticType.Any)
-  mark_safe e f w ty = safe_from p {w = change_delivery e (λ d. if d.is_open then f d else d) w} (delivery_from p e (λ d. if d.is_open then f d else d) w ty) (T_any _ An_undefined)
+  mark_safe e f w ty = safe_from p {w = change_delivery e (while_open f) w} (delivery_from p e (while_open f) w ty) (T_any _ An_undefined)
 
   exists_of : (os : List Object) (o : ObjId) (c : Class) → IsA p os o c → Exists p os o
   exists_of os o c h = record { kind = Instance_of h.class; at = h.at }
@@ -392,9 +393,9 @@ module _ (p : Program) where
         safe_on p o w x.kind _ x.at ty
         (λ container here same th. safe_bind p (safe_each p (λ y os. Exists p os y) (exists_later p) take_out (λ y w1 h ty1. take_out_safe p y w1 h ty1) container.children w (all_map _ _ container.children (λ y h. exists_of w.objects y _ h) th.children) ty)
         (λ _ w1 l _. safe_done p l.typed (T_any _ An_undefined)))
-    alone_safe catalog.StopPropagation o w x e ty = mark_safe o _ w ty
-    alone_safe catalog.StopImmediatePropagation o w x e ty = mark_safe o _ w ty
-    alone_safe catalog.PreventDefault o w x e ty = mark_safe o _ w ty
+    alone_safe catalog.StopPropagation o w x e ty = mark_safe o stopped_delivery w ty
+    alone_safe catalog.StopImmediatePropagation o w x e ty = mark_safe o delivery_stopped_at_once w ty
+    alone_safe catalog.PreventDefault o w x e ty = mark_safe o prevented_delivery w ty
     alone_safe catalog.IsDefaultPrevented o w x e ty = safe_on p o w x.kind _ x.at ty (λ event here same th. safe_done p ty (T_bool _))
     alone_safe _ o w x e ty = absurd (cc)
 

@@ -28,7 +28,7 @@ use Rattle.flex_world.specs.Arrays.{element_or_undefined, last_or_undefined, mos
 use Rattle.flex_world.specs.Children.{child_at, place_for}
 use Rattle.flex_world.specs.Classes.{Class, StaticType, is_event, native_descends, static_type}
 use Rattle.flex_world.specs.Conversions.{accepts, constructor_parameters, into_result, into_type, left_out, start_of_result}
-use Rattle.flex_world.specs.Events.{hearers, is_registered, prevented_now, event_path}
+use Rattle.flex_world.specs.Events.{delivery_stopped_at_once, event_path, hearers, is_registered, prevented_delivery, prevented_now, registration, stopped_delivery, while_open}
 use Rattle.flex_world.specs.Making.{new_object, object_cost}
 use Rattle.flex_world.specs.Objects.{An_array, Delivery, Field, Instance_of, Listener, Object, Spot, Watcher, ancestors_of, can_be_written, count, current_state, field_named, is_array, is_object_among, is_state_field, is_true, next_object, object_at, object_class, property, text_in}
 use Rattle.flex_world.specs.Operators.{Operator, made_text, negated, operate, spaced_text, texts_of}
@@ -46,7 +46,7 @@ use Rattle.flex_meaning.specs.Elements.{add_child, joins, leave_parent, take_out
 use Rattle.flex_meaning.specs.Expressions.{Env, at_null, call, eval, eval_all, find_method, length_value, literal_value, method_value, receiver, tested}
 use Rattle.flex_meaning.specs.GoingOn.{GoesOn, IsBeginning, MoreTurnsGoOn}
 use Rattle.flex_meaning.specs.Making.{begin_event, construct, constructor_arguments, lacks_type, make, prepare, with_type}
-use Rattle.flex_meaning.specs.Natives.{add_listener, call_alone, call_by_count, call_native, call_with_object, call_with_one, dispatch_given, get_element, has_listener, is_it, mark, object_given, registration, remove_element, remove_listener, type_given}
+use Rattle.flex_meaning.specs.Natives.{add_listener, call_alone, call_by_count, call_native, call_with_object, call_with_one, dispatch_given, get_element, has_listener, is_it, mark, object_given, remove_element, remove_listener, type_given}
 use Rattle.flex_meaning.specs.Objects.{allocate, make_bare, new_array, note_made, read}
 use Rattle.flex_meaning.specs.Results.{Ends, Goes, Halts, Result, Stuck, bind, choose, done, each, given, guarded, need, on, stops}
 use Rattle.flex_meaning.specs.Script.{has_flag, miss, play_event, reached, send_change, takes_text, toggle, toggles, type_at, click_on}
@@ -538,7 +538,7 @@ module _ (k : ℕ) where
         get_element_alike (Some child) = alike_stays (value.Ref child)
 
         mark_alike : (e : ObjId) (f : Delivery → Delivery) → Alike (mark e f) (mark e f)
-        mark_alike e f = alike_goes value.Undefined (change_delivery e (λ x. if x.is_open then f x else x)) (λ w. beginning_same w.records) (λ w. refl)
+        mark_alike e f = alike_goes value.Undefined (change_delivery e (while_open f)) (λ w. beginning_same w.records) (λ w. refl)
 
         dispatch_given_alike : (target e : ObjId) → Alike (dispatch_given c target e) (dispatch_given d target e)
         dispatch_given_alike target e =
@@ -556,9 +556,9 @@ module _ (k : ℕ) where
         call_alone_alike : (i : NativeMethod) (o : ObjId) → Alike (call_alone c i o) (call_alone d i o)
         call_alone_alike catalog.RemoveAllElements o =
             alike_on o _ _ (λ container. alike_bind _ _ _ _ (alike_each _ _ take_out_alike container.children) (λ _. alike_stays value.Undefined))
-        call_alone_alike catalog.StopPropagation o = mark_alike o (λ x. record x { stopped = true })
-        call_alone_alike catalog.StopImmediatePropagation o = mark_alike o (λ x. record x { stopped_at_once = true })
-        call_alone_alike catalog.PreventDefault o = mark_alike o (λ x. record x { prevented = x.prevented || x.cancelable })
+        call_alone_alike catalog.StopPropagation o = mark_alike o stopped_delivery
+        call_alone_alike catalog.StopImmediatePropagation o = mark_alike o delivery_stopped_at_once
+        call_alone_alike catalog.PreventDefault o = mark_alike o prevented_delivery
         call_alone_alike catalog.IsDefaultPrevented o = alike_on o _ _ (λ event. alike_stays (value.Bool (prevented_now event.delivery)))
         call_alone_alike _ o = alike_stuck
 

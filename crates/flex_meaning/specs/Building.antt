@@ -4,6 +4,7 @@ use Rattle.flex_base.specs.Value.{ref_of}
 use Rattle.flex_base.specs.declared.value.ObjId.{ObjId}
 use Rattle.flex_base.specs.declared.value.Value.{Value}
 use Rattle.flex_base.specs.declared.value.Value.TheVariants as value
+use Rattle.flex_world.specs.Events.{registration}
 use Rattle.flex_world.specs.Objects.{Spot, Watcher, watcher}
 use Rattle.flex_program.specs.Classes.{document_in}
 use Rattle.flex_program.specs.Instances.{instance_numbered, lies_in, numbers_of, part_of, parts_of}
@@ -14,7 +15,6 @@ use Rattle.flex_meaning.specs.Changes.{enter_first}
 use Rattle.flex_meaning.specs.Elements.{add_child}
 use Rattle.flex_meaning.specs.Expressions.{literal_value}
 use Rattle.flex_meaning.specs.Making.{make}
-use Rattle.flex_meaning.specs.Natives.{registration}
 use Rattle.flex_meaning.specs.Objects.{new_array}
 use Rattle.flex_meaning.specs.Results.{Goes, Result, bind, choose, done, dropped, each, need, on}
 use Rattle.flex_meaning.specs.Storing.{start}

@@ -1,5 +1,5 @@
 -- The dispatch of an event: its path, and the listeners that hear it.
-use Rattle.std.specs.Prelude.{Bool, List, [], codes, false, not, slice_get, true, ℕ, ◌||◌, ◌∷◌}
+use Rattle.std.specs.Prelude.{Bool, List, [], codes, not, slice_get, ℕ, ◌||◌, ◌∷◌}
 use Rattle.flex_base.specs.Events.{phase_number}
 use Rattle.flex_base.specs.declared.event.Arrival.{Arrival}
 use Rattle.flex_base.specs.declared.record.TraceItem.TheVariants.{Sent}
@@ -8,7 +8,7 @@ use Rattle.flex_base.specs.declared.value.Value.{Value}
 use Rattle.flex_base.specs.declared.value.Value.TheVariants as value
 use Rattle.component_catalog.specs.Events.{Event}
 use Rattle.flex_world.specs.Classes.{Class}
-use Rattle.flex_world.specs.Events.{hearers, is_registered, event_path}
+use Rattle.flex_world.specs.Events.{closed_delivery, event_path, hearers, is_registered, opened_delivery}
 use Rattle.flex_world.specs.Objects.{Listener, Object, ancestors_of, count, is_true, property, text_in}
 use Rattle.flex_meaning.specs.Activities.{Context, Hears, carry_out}
 use Rattle.flex_meaning.specs.Conversions.{method_arguments}
@@ -24,10 +24,10 @@ abbrev pub set_arrival : ObjId → Value → ℕ → World → World
 set_arrival e node phase w = set_field e (codes "eventPhase") (count phase) (set_field e (codes "currentTarget") node w)
 
 abbrev pub open_dispatch : ObjId → ObjId → Bool → World → World
-open_dispatch target e cancelable w = set_field e (codes "target") (value.Ref target) (change_delivery e (λ d. record d { dispatched = true; is_open = true; cancelable = cancelable }) w)
+open_dispatch target e cancelable w = set_field e (codes "target") (value.Ref target) (change_delivery e (opened_delivery cancelable) w)
 
 abbrev pub close_dispatch : ObjId → World → World
-close_dispatch e w = set_arrival e value.Null 0 (change_delivery e (λ d. record d { is_open = false; answer = d.prevented }) w)
+close_dispatch e w = set_arrival e value.Null 0 (change_delivery e closed_delivery w)
 
 module _ (c : Context) where
   -- a listener hears the event, converted to the class of its parameter

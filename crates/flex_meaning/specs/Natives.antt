@@ -1,5 +1,5 @@
 -- The methods of the catalog.
-use Rattle.std.specs.Prelude.{Bool, List, None, Option, Some, [], codes, false, if◌then◌else◌, true, ℕ, ℤ, ◌||◌, ◌∷◌}
+use Rattle.std.specs.Prelude.{Bool, List, None, Option, Some, [], codes, false, ℕ, ℤ, ◌∷◌}
 use Rattle.flex_base.specs.Value.{is_object}
 use Rattle.flex_base.specs.declared.outcome.Stop.TheVariants as stop
 use Rattle.flex_base.specs.declared.value.ObjId.{ObjId}
@@ -8,8 +8,8 @@ use Rattle.flex_base.specs.declared.value.Value.TheVariants as value
 use Rattle.component_catalog.specs.declared.method.NativeMethod.{NativeMethod}
 use Rattle.component_catalog.specs.declared.method.NativeMethod.TheVariants as catalog
 use Rattle.flex_world.specs.Children.{child_at}
-use Rattle.flex_world.specs.Events.{is_registered, prevented_now}
-use Rattle.flex_world.specs.Objects.{Delivery, Registration, property}
+use Rattle.flex_world.specs.Events.{delivery_stopped_at_once, is_registered, prevented_delivery, prevented_now, registration, stopped_delivery, while_open}
+use Rattle.flex_world.specs.Objects.{Delivery, property}
 use Rattle.flex_meaning.specs.Activities.{Context}
 use Rattle.flex_meaning.specs.Dispatch.{dispatch}
 use Rattle.flex_meaning.specs.Elements.{add_child, take_out}
@@ -30,9 +30,6 @@ object_given _ w = Stuck w
 -- no value
 abbrev pub nothing : World → Result Value
 nothing w = Goes value.Undefined w
-
-abbrev pub registration : List ℕ → ObjId → ℕ → Bool → ℤ → Registration
-registration event o m capture priority = record { event = event; object = o; method = m; capture = capture; priority = priority }
 
 abbrev pub add_listener : ObjId → List Value → World → Result Value
 add_listener node (kind ∷ value.Listener o m ∷ value.Bool capture ∷ value.Int priority ∷ []) w =
@@ -59,9 +56,9 @@ abbrev pub get_element : Option ObjId → World → Result Value
 get_element None w = stops stop.ArrayIndex w
 get_element (Some child) w = Goes (value.Ref child) w
 
--- stopping and preventing change nothing before and after the dispatch
+-- a dispatch that is open is stopped or prevented
 abbrev pub mark : ObjId → (Delivery → Delivery) → World → Result Value
-mark e f w = nothing (change_delivery e (λ d. if d.is_open then f d else d) w)
+mark e f w = nothing (change_delivery e (while_open f) w)
 
 module _ (c : Context) where
   -- an event is dispatched once
@@ -80,9 +77,9 @@ module _ (c : Context) where
 
   abbrev pub call_alone : NativeMethod → ObjId → World → Result Value
   call_alone catalog.RemoveAllElements o w = on o w (λ container. bind (each take_out container.children w) (λ _ w1. nothing w1))
-  call_alone catalog.StopPropagation o w = mark o (λ d. record d { stopped = true }) w
-  call_alone catalog.StopImmediatePropagation o w = mark o (λ d. record d { stopped_at_once = true }) w
-  call_alone catalog.PreventDefault o w = mark o (λ d. record d { prevented = d.prevented || d.cancelable }) w
+  call_alone catalog.StopPropagation o w = mark o stopped_delivery w
+  call_alone catalog.StopImmediatePropagation o w = mark o delivery_stopped_at_once w
+  call_alone catalog.PreventDefault o w = mark o prevented_delivery w
   call_alone catalog.IsDefaultPrevented o w = on o w (λ event. Goes (value.Bool (prevented_now event.delivery)) w)
   call_alone _ o w = Stuck w
 

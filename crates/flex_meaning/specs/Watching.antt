@@ -1,23 +1,19 @@
 -- Which bindings a change of a property affects.
 use Rattle.std.specs.List.{list_any}
-use Rattle.std.specs.Prelude.{Bool, List, None, Option, Some, [], false, if◌then◌else◌, option_and_then, suc, ℕ, ◌&&◌, ◌++◌, ◌||◌, ◌∷◌}
-use Rattle.std.specs.Str.{bytes_eq}
-use Rattle.flex_base.specs.Value.{is_object}
+use Rattle.std.specs.Prelude.{Bool, List, None, Option, Some, [], if◌then◌else◌, option_and_then, suc, ℕ, ◌&&◌, ◌++◌, ◌∷◌}
 use Rattle.flex_base.specs.declared.value.ObjId.{ObjId}
 use Rattle.flex_world.specs.Objects.{Object, Watcher, field_named, following, is_number_among, object_at, object_in_slot, watcher}
+use Rattle.flex_world.specs.Watching.{reaches}
 use Rattle.flex_program.specs.Classes.{document_in}
 use Rattle.flex_program.specs.Program.{Binding, Document, Program}
 use Rattle.flex_meaning.specs.World.{Built, built_object}
 
--- the object in a slot of this name
 abbrev pub object_in : List ℕ → Option Object → Option ObjId
 object_in name o = option_and_then object_in_slot (option_and_then (λ c. field_named name c.fields) o)
 
--- the walk along the names from an object reaches this object where this property is the next name
-abbrev pub reaches : List Object → ObjId → List ℕ → List (List ℕ) → Option ObjId → Bool
-reaches objects o name [] from = false
-reaches objects o name (next ∷ names) None = false
-reaches objects o name (next ∷ names) (Some at) = (is_object at o && bytes_eq next name) || reaches objects o name names (object_in next (object_at objects at))
+-- the object in the slot of this name
+abbrev pub held_in : List Object → ObjId → List ℕ → Option ObjId
+held_in objects o name = object_in name (object_at objects o)
 
 -- where the chain of a binding starts; an instance is reached only where it is built
 abbrev pub chain_start : List Built → ObjId → Option ℕ → Option ObjId
@@ -25,7 +21,7 @@ chain_start built document None = Some document
 chain_start built document (Some instance) = built_object built document instance
 
 abbrev pub watches : List Object → List Built → ObjId → ObjId → List ℕ → Binding → Bool
-watches objects built document o name b = list_any (λ chain. reaches objects o name chain.names (chain_start built document chain.start)) b.chains
+watches objects built document o name b = list_any (λ chain. reaches (held_in objects) o name chain.names (chain_start built document chain.start)) b.chains
 
 -- among the bindings of a document from a number on, those that are enabled and watch the property
 abbrev pub watchers_in : List Object → List Built → ObjId → ObjId → List ℕ → List ℕ → ℕ → List Binding → List Watcher

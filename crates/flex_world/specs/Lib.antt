@@ -6,3 +6,4 @@ pub mod Children
 pub mod Arrays
 pub mod Operators
 pub mod Conversions
+pub mod Watching

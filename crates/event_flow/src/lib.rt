@@ -1,0 +1,14 @@
+//! The listeners of a node, and the dispatch of an event along its path. ActionScript 3, event
+//! flow.
+#![tactic(auto)]
+
+mod calls;
+mod flow;
+mod listeners;
+mod nodes;
+mod registration;
+#[cfg(test)]
+mod tests;
+
+pub use flow::{Flow, FlowMove};
+pub use listeners::{Addition, Listeners, Removal};
