@@ -1,3 +1,4 @@
 pub mod Hearers
 pub mod Insertions
 pub mod Walks
+pub mod WholeDispatch

@@ -1,3 +1,4 @@
 pub mod Dispatch
 pub mod Hearing
 pub mod Kept
+pub mod Laws

@@ -4,6 +4,7 @@
 
 mod calls;
 mod flow;
+mod laws;
 mod listeners;
 mod nodes;
 mod registration;
@@ -11,4 +12,5 @@ mod registration;
 mod tests;
 
 pub use flow::{Flow, FlowMove};
+pub use laws::laws_of_dispatch;
 pub use listeners::{Addition, Listeners, Removal};

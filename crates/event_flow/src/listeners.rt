@@ -1,8 +1,8 @@
 // The listeners of a node.
 
-ghost use Rattle.std.specs.Prelude.{◌≡◌, [], map, IfOk, OnOk, OnErr};
-ghost use Rattle.flex_world.specs.Events.{is_heard, is_registered_already, registration, with_registration, without_registration};
-ghost use Rattle.event_flow.specs.Hearing.{addition_of, hearers_at, listener_pair, removal_of};
+ghost use Rattle.std.specs.Prelude.{◌≡◌, [], IfOk, OnOk, OnErr};
+ghost use Rattle.flex_world.specs.Events.{is_heard};
+ghost use Rattle.event_flow.specs.Hearing.{addition, has_listener, heard_at, removal, with_listener, without_listener};
 
 use crate::registration::{Registration, insert_by_priority};
 use flex_base::{ListenerList, NoMemory, ObjId, Text};
@@ -63,8 +63,9 @@ impl Listeners {
         capture: bool,
         priority: i32,
     ) -> Result<Addition, NoMemory>
-        ensures after { OnOk result (self.new ≡ with_registration (registration kind.now listener.0 listener.1 capture priority) self.old) }
-        ensures answer { IfOk result (λ a. a ≡ addition_of (is_registered_already kind.now listener.0 listener.1 capture self.old)) }
+        ensures after { OnOk result
+            (self.new ≡ with_listener kind.now listener capture priority self.old) }
+        ensures answer { IfOk result (λ a. a ≡ addition kind.now listener capture self.old) }
         ensures err { OnErr result (self.new ≡ self.old) }
     {
         if self.is_registered(kind, listener, capture) {
@@ -84,8 +85,8 @@ impl Listeners {
     /// Removes the registration of this type, listener and `capture`: `Absent` exactly where there
     /// is none. It takes no memory.
     pub fn remove(&mut self, kind: &Text, listener: (ObjId, u32), capture: bool) -> Removal
-        ensures after { self.new ≡ without_registration kind.now listener.0 listener.1 capture self.old }
-        ensures answer { result ≡ removal_of (is_registered_already kind.now listener.0 listener.1 capture self.old) }
+        ensures after { self.new ≡ without_listener kind.now listener capture self.old }
+        ensures answer { result ≡ removal kind.now listener capture self.old }
     {
         let was_registered = self.is_registered(kind, listener, capture);
         self.registrations
@@ -101,7 +102,7 @@ impl Listeners {
     /// priority to low, equal ones in order of registration; in a phase of another number there are
     /// none.
     pub fn at_node(&self, alloc: Global, kind: &Text, phase: u8) -> Result<ListenerList, NoMemory>
-        ensures { IfOk result (λ list. list ≡ map listener_pair (hearers_at kind.now phase self.now)) }
+        ensures { IfOk result (λ list. list ≡ heard_at kind.now phase self.now) }
     {
         let mut hearers: Vec<&Registration> = Vec::new(alloc);
         for registration in &self.registrations {
@@ -125,7 +126,7 @@ impl Listeners {
     }
 
     fn is_registered(&self, kind: &Text, listener: (ObjId, u32), capture: bool) -> bool
-        ensures { result ≡ is_registered_already kind.now listener.0 listener.1 capture self.now }
+        ensures { result ≡ has_listener kind.now listener capture self.now }
     {
         self.registrations
             .iter()
