@@ -1,5 +1,6 @@
 -- The program of a document of Labels and Buttons.
-use Rattle.std.specs.Prelude.{List, None, Some, [], codes, map, suc, true, ℕ, ◌∷◌}
+use Rattle.std.specs.List.{flat_map}
+use Rattle.std.specs.Prelude.{List, None, Some, [], codes, map, true, ℕ, ◌+◌, ◌∷◌}
 use Rattle.component_catalog.specs.declared.class.NativeClass.{NativeClass}
 use Rattle.component_catalog.specs.declared.class.NativeClass.TheVariants as native
 use Rattle.flex_front.specs.Source.{id_of}
@@ -22,11 +23,11 @@ attributes_of handler (element.Button id (Some text)) = Attribute.Handles (codes
 
 -- the number of the next handler, behind an element
 abbrev pub next_handler : ℕ → Element → ℕ
-next_handler handler (element.Button id (Some text)) = suc handler
+next_handler handler (element.Button id (Some text)) = handler + 1
 next_handler handler _ = handler
 
-abbrev pub part_of : ℕ → ℕ → Element → Part
-part_of number handler e =
+abbrev pub element_part : ℕ → ℕ → Element → Part
+element_part number handler e =
     record {
       number = number;
       class = Class.Native (element_class e);
@@ -35,11 +36,13 @@ part_of number handler e =
       attributes = attributes_of handler e;
     }
 
+abbrev pub child_of : ℕ → ℕ → Element → Instance
+child_of number handler e = Instance.Holding (element_part number handler e) Contents.NoContent
+
 -- elements one behind another, where the next instance and the next handler have these numbers
 abbrev pub children_of : ℕ → ℕ → List Element → Contents
 children_of number handler [] = Contents.NoContent
-children_of number handler (e ∷ es) =
-    Contents.Child (Instance.Holding (part_of number handler e) Contents.NoContent) (children_of (suc number) (next_handler handler e) es)
+children_of number handler (e ∷ es) = Contents.Child (child_of number handler e) (children_of (number + 1) (next_handler handler e) es)
 
 -- a handler of clicks, which traces a text
 abbrev pub handler_of : List ℕ → Method
@@ -51,10 +54,9 @@ handler_of text =
       body = MoreStmt (Stmt.Trace (MoreExpr (Expr.Constant (Literal.Quoted text)) NoExpr)) NoStmt;
     }
 
-abbrev pub handlers_of : List Element → List Method
-handlers_of [] = []
-handlers_of (element.Button id (Some text) ∷ es) = handler_of text ∷ handlers_of es
-handlers_of (_ ∷ es) = handlers_of es
+abbrev pub handlers_in : Element → List Method
+handlers_in (element.Button id (Some text)) = handler_of text ∷ []
+handlers_in _ = []
 
 -- an element's id is a variable of its document
 abbrev pub id_variable : Element → Variable
@@ -70,8 +72,11 @@ id_variable e =
 abbrev pub root_part : Part
 root_part = record { number = 0; class = Class.Native native.Application; id = None; presence = None; attributes = [] }
 
-abbrev pub document_of : List Element → Document
-document_of es = record { root = Instance.Holding root_part (children_of 1 0 es); bindings = []; states = [] }
+abbrev pub root_of : List Element → Instance
+root_of es = Instance.Holding root_part (children_of 1 0 es)
+
+abbrev pub declared_document : List Element → Document
+declared_document es = record { root = root_of es; bindings = []; states = [] }
 
 abbrev pub main_class : List Element → SourceClass
 main_class es =
@@ -81,8 +86,8 @@ main_class es =
       variables = map id_variable es;
       members = [];
       constructor = None;
-      document = Some (document_of es);
+      document = Some (declared_document es);
     }
 
-abbrev pub program_of : Source.Document → Program
-program_of d = record { classes = main_class d.elements ∷ []; methods = handlers_of d.elements; main = 0 }
+abbrev pub source_program : Source.Document → Program
+source_program d = record { classes = main_class d.elements ∷ []; methods = flat_map handlers_in d.elements; main = 0 }

@@ -8,7 +8,7 @@ use Rattle.flex_front.specs.declared.document.Document.{Document}
 use Rattle.flex_front.specs.declared.document.Element.TheVariants.{Button, Label}
 use Rattle.flex_meaning.specs.Terms.{added, clicks_on, ended, heard, made, object_value, sent, spent, written}
 use Rattle.flex_meaning.specs.Trace.{source_trace}
-use Rattle.built_programs.specs.Programs.{program_of}
+use Rattle.built_programs.specs.Programs.{source_program}
 
 -- a document with one Label
 abbrev pub with_label : List ℕ → List ℕ → Document
@@ -19,7 +19,7 @@ label_is_built = made 1 (codes "Main") ∷ made 2 (codes "Label") ∷ written 1 
 
 abbrev pub GreetingMeans : Type 0
 GreetingMeans =
-    source_trace (program_of (with_label (codes "greeting") (codes "Hi"))) [] 1000000
+    source_trace (source_program (with_label (codes "greeting") (codes "Hi"))) [] 1000000
     ≡ ended
     (made 1 (codes "Main")
     ∷ made 2 (codes "Label")
@@ -29,14 +29,14 @@ GreetingMeans =
     ∷ [])
 
 abbrev pub EmptyTextMeans : Type 0
-EmptyTextMeans = source_trace (program_of (with_label (codes "greeting") [])) [] 1000000 ≡ ended label_is_built
+EmptyTextMeans = source_trace (source_program (with_label (codes "greeting") [])) [] 1000000 ≡ ended label_is_built
 
 abbrev pub OneTurnMeans : Type 0
-OneTurnMeans = source_trace (program_of (with_label (codes "greeting") (codes "Hi"))) [] 1 ≡ spent (made 1 (codes "Main") ∷ [])
+OneTurnMeans = source_trace (source_program (with_label (codes "greeting") (codes "Hi"))) [] 1 ≡ spent (made 1 (codes "Main") ∷ [])
 
 abbrev pub ButtonMeans : Type 0
 ButtonMeans =
-    source_trace (program_of (record { elements = Label (codes "greeting") [] ∷ Button (codes "go") None ∷ [] })) [] 1000000
+    source_trace (source_program (record { elements = Label (codes "greeting") [] ∷ Button (codes "go") None ∷ [] })) [] 1000000
     ≡ ended (label_is_built ++ (made 3 (codes "Button") ∷ written 1 (codes "go") (object_value 3) ∷ added 1 3 1 ∷ []))
 
 -- a Button that traces `hi` at each click
@@ -48,7 +48,7 @@ greeter_is_built = made 1 (codes "Main") ∷ made 2 (codes "Button") ∷ written
 
 abbrev pub ClickMeans : Type 0
 ClickMeans =
-    source_trace (program_of greeter) (clicks_on (codes "go") ∷ clicks_on (codes "no") ∷ []) 1000000
+    source_trace (source_program greeter) (clicks_on (codes "go") ∷ clicks_on (codes "no") ∷ []) 1000000
     ≡ ended
     (greeter_is_built
     ++ (User (codes "click go")
@@ -61,12 +61,12 @@ ClickMeans =
 
 abbrev pub TwoTurnsMean : Type 0
 TwoTurnsMean =
-    source_trace (program_of greeter) (clicks_on (codes "go") ∷ clicks_on (codes "no") ∷ []) 2
+    source_trace (source_program greeter) (clicks_on (codes "go") ∷ clicks_on (codes "no") ∷ []) 2
     ≡ spent (greeter_is_built ++ (User (codes "click go") ∷ sent 2 (codes "click") ∷ []))
 
 abbrev pub LabelClickMeans : Type 0
 LabelClickMeans =
-    source_trace (program_of (with_label (codes "greeting") [])) (clicks_on (codes "greeting") ∷ clicks_on (codes "greeting") ∷ []) 1000000
+    source_trace (source_program (with_label (codes "greeting") [])) (clicks_on (codes "greeting") ∷ clicks_on (codes "greeting") ∷ []) 1000000
     ≡ ended
     (label_is_built
     ++ (User (codes "click greeting")
@@ -78,5 +78,5 @@ LabelClickMeans =
 -- the parent of an element is a public property too, so a path may go up by it
 abbrev pub ParentMeans : Type 0
 ParentMeans =
-    source_trace (program_of greeter) (Click (codes "go" ∷ codes "parent" ∷ []) (codes "click go.parent") ∷ []) 1000000
+    source_trace (source_program greeter) (Click (codes "go" ∷ codes "parent" ∷ []) (codes "click go.parent") ∷ []) 1000000
     ≡ ended (greeter_is_built ++ (User (codes "click go.parent") ∷ sent 1 (codes "click") ∷ []))

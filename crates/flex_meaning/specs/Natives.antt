@@ -1,5 +1,5 @@
 -- The methods of the catalog.
-use Rattle.std.specs.Prelude.{Bool, List, None, Option, Some, [], codes, false, ℕ, ℤ, ◌∷◌}
+use Rattle.std.specs.Prelude.{Bool, List, None, Option, Some, [], codes, false, ℕ, ◌∷◌}
 use Rattle.flex_base.specs.Value.{is_object}
 use Rattle.flex_base.specs.declared.outcome.Stop.TheVariants as stop
 use Rattle.flex_base.specs.declared.value.ObjId.{ObjId}
