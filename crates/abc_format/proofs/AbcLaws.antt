@@ -1,14 +1,12 @@
--- The laws of reading and writing ABCs.
+-- The laws of reading ABCs.
 use Rattle.std.proofs.Common.{◌≡◌, Some, None, Result, Ok, Err, refl, ap, ◌⊎◌, inl, inr}
 use Rattle.flex_base.proofs.ResultLaws.{ok_is}
-use Rattle.abc_format.specs.Spelling.{abc_bytes}
 use Rattle.abc_format.specs.Fields.{Fault}
 use Rattle.abc_format.specs.Reading.{read_abc, abc_fault, fault_of}
-use Rattle.abc_format.specs.AbcLaws.{IsSome, AbcIsRead, ReadIsAbc, AbcOrFault, OneAbc, AbcIsWritten, AbcIsReadBack}
+use Rattle.abc_format.specs.AbcLaws.{IsSome, AbcIsRead, ReadIsAbc, AbcOrFault, OneAbc}
 use Rattle.abc_format.specs.declared.records.Abc.{Abc}
 use Rattle.abc_format.proofs.RecordFronts.{abc-front}
 use Rattle.abc_format.proofs.RecordsFound.{abc-found}
-use Rattle.abc_format.proofs.SpellingLaws.{respelled}
 
 pub abc_is_read : AbcIsRead
 abc_is_read a bytes w = abc-front a bytes w.spelled w.indexes
@@ -28,9 +26,3 @@ abc_or_fault bytes are = by (read_abc bytes) refl
 
 pub one_abc : OneAbc
 one_abc a b bytes w v = ok_is (read_abc bytes) a b (abc_is_read a bytes w) (abc_is_read b bytes v)
-
-pub abc_is_written : AbcIsWritten
-abc_is_written a bytes w = record { spelled = respelled a bytes w.spelled; indexes = w.indexes }
-
-pub abc_is_read_back : AbcIsReadBack
-abc_is_read_back a bytes w = abc_is_read a (abc_bytes a) (abc_is_written a bytes w)

@@ -6,11 +6,11 @@ use Rattle.std.proofs.lemmas.List.{append-nil}
 use Rattle.std.proofs.lemmas.List.Elements.{All-nil}
 use Rattle.byteorder.specs.Endian.{little_bytes}
 use Rattle.flex_base.specs.Split.{Split, Each}
-use Rattle.abc_format.specs.Spelling.{trait_code, namespace_kind_byte}
+use Rattle.abc_format.specs.Kinds.{trait_code, namespace_kind_byte, namespace_kind_of, kind_among, namespace_kinds}
 use Rattle.abc_format.specs.Grammar.{IsU30, IsU32, IsS32, IsByte, IsDouble, IsString, IsNamespace, IsMultiname, IsPool, IsOption, AreParamNames, IsMethod, IsItem, IsMetadata, AreTwo, IsValueKind, IsVariable, IsTraitKind, IsTrait, IsInstance, IsClass, IsScript, IsException, IsBody, IsAbc, Exactly, Counted, WhereFlag}
 use Rattle.abc_format.specs.Indexes.{AreBytes, IsIndex, string_rule, namespace_rule, set_rule, name_rule, interface_rule, method_rule, metadata_rule, class_rule, pool_tables, with_tables, NamespaceIndexes, SetIndexes, MultinameIndexes, PoolIndexes, MethodIndexes, MetadataIndexes, TraitKindIndexes, TraitIndexes, InstanceIndexes, ClassIndexes, ScriptIndexes, BodyIndexes, HasIndexes}
 use Rattle.abc_format.specs.Fields.{Cursor, Read, Reading, done, fault_at, place_of, read_byte, read_u32, read_index, read_int, read_double, read_string, times, counted}
-use Rattle.abc_format.specs.Reading.{kind_among, namespace_kinds, namespace_kind_of, known, read_namespace_kind, read_namespace, read_set, read_one, read_two, read_name_parts, read_multiname, some_tables, read_pool, read_option, read_method, read_item, read_metadata, read_value_kind, read_variable, read_member, read_trait_parts, read_trait, read_instance, read_class, read_script, read_exception, read_code, read_body, read_head, with_classes, read_classes, read_file, whole, start, read_abc}
+use Rattle.abc_format.specs.Reading.{known, read_namespace_kind, read_namespace, read_set, read_one, read_two, read_name_parts, read_multiname, some_tables, read_pool, read_option, read_method, read_item, read_metadata, read_value_kind, read_variable, read_member, read_trait_parts, read_trait, read_instance, read_class, read_script, read_exception, read_code, read_body, read_head, with_classes, read_classes, read_file, whole, start, read_abc}
 use Rattle.abc_format.specs.declared.reason.AbcReason.TheVariants as reason
 use Rattle.abc_format.specs.declared.reading.Classes.{Classes}
 use Rattle.abc_format.specs.declared.records.Abc.{Abc}

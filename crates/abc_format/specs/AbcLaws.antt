@@ -1,6 +1,5 @@
--- Which bytes are an ABC and of which records, and what holds of reading and writing them.
+-- Which bytes are an ABC and of which records, and what holds of reading them.
 use Rattle.std.specs.Prelude.{◌≡◌, ◌⊎◌, List, ℕ, None, Some, Ok}
-use Rattle.abc_format.specs.Spelling.{abc_bytes}
 use Rattle.abc_format.specs.Grammar.{IsAbc}
 use Rattle.abc_format.specs.Indexes.{AreBytes, HasIndexes}
 use Rattle.abc_format.specs.Fields.{Fault}
@@ -34,11 +33,3 @@ AbcOrFault =
 -- bytes stand for one record
 abbrev pub OneAbc : Type 0
 OneAbc = (a b : Abc) (bytes : List ℕ) → StandsFor a bytes → StandsFor b bytes → a ≡ b
-
--- what some bytes stand for, the written bytes stand for
-abbrev pub AbcIsWritten : Type 0
-AbcIsWritten = (a : Abc) (bytes : List ℕ) → StandsFor a bytes → StandsFor a (abc_bytes a)
-
--- and are read as it
-abbrev pub AbcIsReadBack : Type 0
-AbcIsReadBack = (a : Abc) (bytes : List ℕ) → StandsFor a bytes → read_abc (abc_bytes a) ≡ Ok a

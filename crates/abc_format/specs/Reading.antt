@@ -1,6 +1,6 @@
 -- What bytes say as an ABC, or the first place at which they are none and the reason. AVM2 Overview, chapter 4.
-use Rattle.std.specs.Prelude.{◌≡◌, ℕ, ◌/◌, ◌%◌, List, [], ◌∷◌, length, if◌then◌else◌, ◌==◌, Option, Some, None, Result, Ok, Err, MatchResult}
-use Rattle.abc_format.specs.Spelling.{namespace_kind_byte}
+use Rattle.std.specs.Prelude.{◌≡◌, ℕ, ◌/◌, ◌%◌, List, [], length, if◌then◌else◌, ◌==◌, Option, Some, None, Result, Ok, Err, MatchResult}
+use Rattle.abc_format.specs.Kinds.{namespace_kind_of, qname_kind, qname_a_kind, rtq_name_kind, rtq_name_a_kind, rtq_name_l_kind, rtq_name_la_kind, multiname_kind, multiname_a_kind, multiname_l_kind, multiname_la_kind, slot_code, method_code, getter_code, setter_code, class_code, function_code, const_code}
 use Rattle.abc_format.specs.Indexes.{string_rule, namespace_rule, set_rule, name_rule, interface_rule, method_rule, metadata_rule, class_rule, pool_tables, with_tables}
 use Rattle.abc_format.specs.Fields.{Cursor, Fault, Reading, place_of, done, fault_at, fails, and_then, read_byte, read_piece, read_u32, read_u30, read_index, read_int, read_double, read_string, read_version, times, counted, table, flagged}
 use Rattle.abc_format.specs.declared.tables.IndexRule.{IndexRule}
@@ -14,7 +14,6 @@ use Rattle.abc_format.specs.declared.records.Abc.{Abc}
 use Rattle.abc_format.specs.declared.records.ConstantPool.{ConstantPool}
 use Rattle.abc_format.specs.declared.records.Namespace.{Namespace}
 use Rattle.abc_format.specs.declared.records.NamespaceKind.{NamespaceKind}
-use Rattle.abc_format.specs.declared.records.NamespaceKind.TheVariants as namespace_kind
 use Rattle.abc_format.specs.declared.records.Multiname.{Multiname}
 use Rattle.abc_format.specs.declared.records.Multiname.TheVariants as multiname
 use Rattle.abc_format.specs.declared.records.MethodInfo.{MethodInfo}
@@ -29,19 +28,6 @@ use Rattle.abc_format.specs.declared.records.ExceptionInfo.{ExceptionInfo}
 use Rattle.abc_format.specs.declared.records.Trait.{Trait}
 use Rattle.abc_format.specs.declared.records.TraitKind.{TraitKind}
 use Rattle.abc_format.specs.declared.records.TraitKind.TheVariants as trait_kind
-
--- the kind among these that has the byte
-abbrev pub kind_among : ℕ → List NamespaceKind → Option NamespaceKind
-kind_among byte [] = None
-kind_among byte (kind ∷ kinds) = if byte == namespace_kind_byte kind then Some kind else kind_among byte kinds
-
-abbrev pub namespace_kinds : List NamespaceKind
-namespace_kinds =
-    namespace_kind.Namespace ∷ namespace_kind.PackageNamespace ∷ namespace_kind.PackageInternalNs ∷ namespace_kind.ProtectedNamespace
-    ∷ namespace_kind.ExplicitNamespace ∷ namespace_kind.StaticProtectedNs ∷ namespace_kind.PrivateNs ∷ []
-
-unfoldable pub namespace_kind_of : ℕ → Option NamespaceKind
-namespace_kind_of byte = kind_among byte namespace_kinds
 
 -- a kind that stands at the first cursor
 abbrev pub known : Cursor → Option NamespaceKind → Cursor → Reading NamespaceKind
@@ -74,16 +60,16 @@ read_two name one other c =
 -- what a kind with this byte, which stands at the place, has of its own
 unfoldable pub read_name_parts : Tables → ℕ → ℕ → Cursor → Reading Multiname
 read_name_parts t place kind rest =
-    if kind == 0x07 then read_two (λ namespace name. multiname.QName namespace name) (namespace_rule t) (string_rule t) rest
-    else if kind == 0x0D then read_two (λ namespace name. multiname.QNameA namespace name) (namespace_rule t) (string_rule t) rest
-    else if kind == 0x0F then read_one (λ name. multiname.RtqName name) (string_rule t) rest
-    else if kind == 0x10 then read_one (λ name. multiname.RtqNameA name) (string_rule t) rest
-    else if kind == 0x11 then done multiname.RtqNameL rest
-    else if kind == 0x12 then done multiname.RtqNameLA rest
-    else if kind == 0x09 then read_two (λ name set. multiname.Multiname name set) (string_rule t) (set_rule t) rest
-    else if kind == 0x0E then read_two (λ name set. multiname.MultinameA name set) (string_rule t) (set_rule t) rest
-    else if kind == 0x1B then read_one (λ set. multiname.MultinameL set) (set_rule t) rest
-    else if kind == 0x1C then read_one (λ set. multiname.MultinameLA set) (set_rule t) rest
+    if kind == qname_kind then read_two (λ namespace name. multiname.QName namespace name) (namespace_rule t) (string_rule t) rest
+    else if kind == qname_a_kind then read_two (λ namespace name. multiname.QNameA namespace name) (namespace_rule t) (string_rule t) rest
+    else if kind == rtq_name_kind then read_one (λ name. multiname.RtqName name) (string_rule t) rest
+    else if kind == rtq_name_a_kind then read_one (λ name. multiname.RtqNameA name) (string_rule t) rest
+    else if kind == rtq_name_l_kind then done multiname.RtqNameL rest
+    else if kind == rtq_name_la_kind then done multiname.RtqNameLA rest
+    else if kind == multiname_kind then read_two (λ name set. multiname.Multiname name set) (string_rule t) (set_rule t) rest
+    else if kind == multiname_a_kind then read_two (λ name set. multiname.MultinameA name set) (string_rule t) (set_rule t) rest
+    else if kind == multiname_l_kind then read_one (λ set. multiname.MultinameL set) (set_rule t) rest
+    else if kind == multiname_la_kind then read_one (λ set. multiname.MultinameLA set) (set_rule t) rest
     else Err (record { place = place; reason = reason.Kind })
 
 unfoldable pub read_multiname : Tables → Cursor → Reading Multiname
@@ -172,13 +158,13 @@ read_member kind rule c =
 -- what a kind with this code, whose byte stands at the place, has of its own
 unfoldable pub read_trait_parts : Tables → ℕ → ℕ → Cursor → Reading TraitKind
 read_trait_parts t place code rest =
-    if code == 0 then and_then (read_variable t rest) (λ v more. done (trait_kind.Slot v.slot_id v.type_name v.vindex v.vkind) more)
-    else if code == 1 then read_member (λ disp_id method. trait_kind.Method disp_id method) (method_rule t) rest
-    else if code == 2 then read_member (λ disp_id method. trait_kind.Getter disp_id method) (method_rule t) rest
-    else if code == 3 then read_member (λ disp_id method. trait_kind.Setter disp_id method) (method_rule t) rest
-    else if code == 4 then read_member (λ slot_id class. trait_kind.Class slot_id class) (class_rule t) rest
-    else if code == 5 then read_member (λ slot_id function. trait_kind.Function slot_id function) (method_rule t) rest
-    else if code == 6 then and_then (read_variable t rest) (λ v more. done (trait_kind.Const v.slot_id v.type_name v.vindex v.vkind) more)
+    if code == slot_code then and_then (read_variable t rest) (λ v more. done (trait_kind.Slot v.slot_id v.type_name v.vindex v.vkind) more)
+    else if code == method_code then read_member (λ disp_id method. trait_kind.Method disp_id method) (method_rule t) rest
+    else if code == getter_code then read_member (λ disp_id method. trait_kind.Getter disp_id method) (method_rule t) rest
+    else if code == setter_code then read_member (λ disp_id method. trait_kind.Setter disp_id method) (method_rule t) rest
+    else if code == class_code then read_member (λ slot_id class. trait_kind.Class slot_id class) (class_rule t) rest
+    else if code == function_code then read_member (λ slot_id function. trait_kind.Function slot_id function) (method_rule t) rest
+    else if code == const_code then and_then (read_variable t rest) (λ v more. done (trait_kind.Const v.slot_id v.type_name v.vindex v.vkind) more)
     else Err (record { place = place; reason = reason.Kind })
 
 -- the numbers of metadata, where the attributes say that there are some

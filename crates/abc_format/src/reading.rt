@@ -3,6 +3,7 @@
 ghost use Rattle.abc_format.specs.Fields.{Answers};
 ghost use Rattle.abc_format.specs.Reading.{Tells, read_classes, read_file, read_head};
 
+mod indexes;
 mod lists;
 mod methods;
 mod pool;

@@ -10,8 +10,9 @@ use Rattle.flex_base.specs.Split.{Each}
 use Rattle.abc_format.proofs.SpellingLaws.{u30-spelled}
 use Rattle.abc_format.proofs.PartLaws.{joined}
 use Rattle.avm2_code.specs.declared.instruction.Instruction.{Instruction}
-use Rattle.avm2_code.specs.Reading.{signed24}
-use Rattle.avm2_code.specs.Table.{Operand, U8, S8, U30, S24, opcode, operands, IsOperand, IsInstruction}
+use Rattle.avm2_code.specs.declared.table.OperandForm.{OperandForm}
+use Rattle.avm2_code.specs.declared.table.OperandForm.TheVariants.{U8, S8, U30, S24}
+use Rattle.avm2_code.specs.Table.{signed24, opcode, operands, IsOperand, IsInstruction}
 use Rattle.avm2_code.specs.Writing.{spelling, encode}
 use Rattle.avm2_code.specs.Assembly.{IsS24, FitsForm}
 
@@ -34,15 +35,15 @@ offset24 (pos n) lt =
     ap signed24 e ∙ ap (λ t. if t then pos n else (pos n -ℤ pos 16777216)) (lt-ltb n 8388608 lt)
 offset24 (negsuc n) lt = ap signed24 (negative24 n lt) ∙ ap (λ t. if t then pos (16777216 - suc n) else (pos (16777216 - suc n) -ℤ pos 16777216)) (large n lt) ∙ back n lt
 
-pub operand-spelled : (o : Operand) → FitsForm o → IsOperand o (spelling o)
+pub operand-spelled : (o : OperandForm) → FitsForm o → IsOperand o (spelling o)
 operand-spelled (U8 n) fits = refl
 operand-spelled (S8 z) fits = (cast_unsigned w8 z, refl, to_z-of_z w8 z fits)
-operand-spelled (U30 n) fits = u30-spelled n fits
+operand-spelled (U30 of n) fits = u30-spelled n fits
 operand-spelled (S24 z) fits =
     let n = cast_unsigned w32 z % 16777216 in
     (n % 256, n / 256 % 256, n / 65536, refl, ap signed24 (together n) ∙ offset24 z fits)
 
-pub operands-spelled : (os : List Operand) → All FitsForm os → Each IsOperand os (flat_map spelling os)
+pub operands-spelled : (os : List OperandForm) → All FitsForm os → Each IsOperand os (flat_map spelling os)
 operands-spelled [] fits = refl
 operands-spelled (o ∷ os) fits = joined (spelling o) (flat_map spelling os) (operand-spelled o (All-head FitsForm o os fits)) (operands-spelled os (All-tail FitsForm o os fits))
 

@@ -1,92 +1,89 @@
--- Each spelling of an instruction is read, and what is read is spelled so.
-use Rattle.abc_format.specs.Numbers.{u30_limit}
-use Rattle.std.proofs.Common.{◌≡◌, ℕ, suc, ◌+◌, ℤ, List, [], ◌∷◌, ◌++◌, length, drop, Ok, Err, refl, sym, ap, ◌∙◌, subst, arith, append_assoc, length-append}
-use Rattle.std.specs.Prelude.{if◌then◌else◌, ◌&&◌, nat_lt}
-use Rattle.std.proofs.lemmas.Bool.{lt-ltb}
+-- Each spelling of an instruction is read, and its numbers are judged once all of them fit.
+use Rattle.std.proofs.Common.{◌≡◌, ℕ, suc, ◌+◌, ℤ, Bool, false, List, [], ◌∷◌, ◌++◌, length, drop, Ok, Err, refl, sym, ap, ◌∙◌, subst, arith, append_assoc, length-append}
+use Rattle.std.specs.Prelude.{if◌then◌else◌, ◌||◌}
+use Rattle.std.specs.List.{list_any}
+use Rattle.std.proofs.lemmas.Bool.{lt-leb}
 use Rattle.std.proofs.lemmas.List.{append-nil}
 use Rattle.std.proofs.Math.Seq.{drop-append_seam, drop-append-add}
 use Rattle.flex_base.specs.Split.{Split, Each}
-use Rattle.abc_format.specs.Grammar.{IsByte, IsU30}
+use Rattle.abc_format.specs.Grammar.{IsByte, IsSpelledBy}
+use Rattle.abc_format.specs.Numbers.{u30_limit}
 use Rattle.abc_format.proofs.NumberLaws.{u32_at-append}
 use Rattle.avm2_code.specs.declared.reason.CodeReason.TheVariants.{Number}
 use Rattle.avm2_code.specs.declared.instruction.Instruction.{Instruction}
 use Rattle.avm2_code.specs.declared.instruction.Instruction.TheVariants as instruction
-use Rattle.avm2_code.specs.Reading.{Reading, then_do, spelled, number, one_number, two_numbers, one_byte, offset, four_done, four_after_register, four_after_name, four_operands, with_number, with_numbers, with_byte, with_signed_byte, with_offset, with_four, read_operands, read_instruction, instruction_at}
-use Rattle.avm2_code.specs.Table.{U8, S8, U30, S24, opcode, operands, IsOperand, IsInstruction, IsAt}
+use Rattle.avm2_code.specs.declared.table.OperandForm.{OperandForm}
+use Rattle.avm2_code.specs.declared.table.OperandForm.TheVariants.{U8, S8, U30, S24}
+use Rattle.avm2_code.specs.declared.table.Role.TheVariants.{Plain}
+use Rattle.avm2_code.specs.Reading.{Reading, then_do, spelled, number, two_numbers, one_byte, offset, four_done, four_after_register, four_after_name, four_operands, OfNumber, OfNumbers, OfByte, OfSignedByte, OfOffset, OfFour, read_as, makers, read_among, read_instruction, instruction_at}
+use Rattle.avm2_code.specs.Table.{opcode, operands, IsSpelled, IsOperand, IsAt, Fits, is_too_large}
 
 -- a part with nothing behind it
 whole_is : (P : List ℕ → Type 0) (bytes : List ℕ) → Split P (λ back. back ≡ []) bytes → P bytes
 whole_is P bytes s = subst P (sym (s.is ∙ ap (λ l. s.front ++ l) s.second ∙ append-nil s.front)) s.first
 
 -- a number is read, whatever follows
-number_is : (n : ℕ) (bytes rest : List ℕ) → IsU30 n bytes → number (bytes ++ rest) ≡ Ok (n, length bytes)
-number_is n bytes rest w = ap spelled (u32_at-append bytes rest _ w.spelled)
+number_is : (n : ℕ) (bytes rest : List ℕ) → IsSpelledBy n bytes → number (bytes ++ rest) ≡ Ok (n, length bytes)
+number_is n bytes rest w = ap spelled (u32_at-append bytes rest _ w)
 
-one_is : (n : ℕ) (bytes rest : List ℕ) → IsU30 n bytes → one_number (bytes ++ rest) ≡ Ok (n, length bytes)
-one_is n bytes rest w =
-    ap (λ r. then_do r (λ m. if nat_lt m.0 u30_limit then Ok m else Err Number)) (number_is n bytes rest w)
-    ∙ ap (λ t. if t then Ok (n, length bytes) else Err Number) (lt-ltb n u30_limit w.below)
-
-two_is : (n m : ℕ) (bytes rest : List ℕ) → Split (IsU30 n) (Split (IsU30 m) (λ back. back ≡ [])) bytes → two_numbers (bytes ++ rest) ≡ Ok (n, m, length bytes)
+two_is : (n m : ℕ) (bytes rest : List ℕ) → Split (IsSpelledBy n) (Split (IsSpelledBy m) (λ back. back ≡ [])) bytes → two_numbers (bytes ++ rest) ≡ Ok (n, m, length bytes)
 two_is n m bytes rest s =
-    let second = whole_is (IsU30 m) s.back s.second in
-    let first = s.first in
+    let second = whole_is (IsSpelledBy m) s.back s.second in
     let all = s.front ++ (s.back ++ rest) in
-    let then_second : Reading (ℕ × ℕ) → Reading (ℕ × ℕ × ℕ) = λ r. then_do r (λ b. if nat_lt n u30_limit && nat_lt b.0 u30_limit then Ok (n, b.0, length s.front + b.1) else Err Number) in
+    let then_second : Reading (ℕ × ℕ) → Reading (ℕ × ℕ × ℕ) = λ r. then_do r (λ b. Ok (n, b.0, length s.front + b.1)) in
     ap (λ l. two_numbers (l ++ rest)) s.is ∙ ap two_numbers (append_assoc s.front s.back rest)
-    ∙ ap (λ r. then_do r (λ a. then_do (number (drop a.1 all)) (λ b. if nat_lt a.0 u30_limit && nat_lt b.0 u30_limit then Ok (a.0, b.0, a.1 + b.1) else Err Number))) (number_is n s.front (s.back ++ rest) first)
+    ∙ ap (λ r. then_do r (λ a. then_do (number (drop a.1 all)) (λ b. Ok (a.0, b.0, a.1 + b.1)))) (number_is n s.front (s.back ++ rest) s.first)
     ∙ ap (λ l. then_second (number l)) (drop-append_seam s.front (s.back ++ rest))
     ∙ ap then_second (number_is m s.back rest second)
-    ∙ ap (λ t. if t && nat_lt m u30_limit then Ok (n, m, length s.front + length s.back) else Err Number) (lt-ltb n u30_limit first.below)
-    ∙ ap (λ t. if t then Ok (n, m, length s.front + length s.back) else Err Number) (lt-ltb m u30_limit second.below)
     ∙ ap (λ k. Ok (n, m, k)) (sym (ap length s.is ∙ length-append s.front s.back))
 
 -- the opcode, and what its operands are in
 record Opened (i : Instruction) (piece : List ℕ) : Type 0 where
   behind : List ℕ
   is : piece ≡ opcode i ∷ behind
-  each : Each IsOperand (operands i) behind
+  each : Each IsSpelled (operands i) behind
 
-opened : (i : Instruction) (piece : List ℕ) → IsInstruction i piece → Opened i piece
+opened : (i : Instruction) (piece : List ℕ) → Split (IsByte (opcode i)) (Each IsSpelled (operands i)) piece → Opened i piece
 opened i piece s = record { behind = s.back; is = s.is ∙ ap (λ l. l ++ s.back) s.first; each = s.second }
 
 -- an instruction is read where its operands are, whatever follows
-read_of : (i : Instruction) (piece rest : List ℕ) (o : Opened i piece) → read_operands (opcode i) (o.behind ++ rest) ≡ Ok (i, suc (length o.behind)) → read_instruction (piece ++ rest) ≡ Ok (i, length piece)
+read_of : (i : Instruction) (piece rest : List ℕ) (o : Opened i piece) → read_among makers (opcode i) (o.behind ++ rest) ≡ Ok (i, suc (length o.behind)) → read_instruction (piece ++ rest) ≡ Ok (i, length piece)
 read_of i piece rest o e = ap (λ l. read_instruction (l ++ rest)) o.is ∙ e ∙ ap (λ k. Ok (i, k)) (sym (ap length o.is))
 
 after_none : (i : Instruction) (behind : List ℕ) (r : Reading (Instruction × ℕ)) → r ≡ Ok (i, 1) → behind ≡ [] → r ≡ Ok (i, suc (length behind))
 after_none i behind r is none = is ∙ ap (λ l. Ok (i, suc (length l))) (sym none)
 
-after_one : (f : ℕ → Instruction) (n : ℕ) (behind rest : List ℕ) → Each IsOperand (U30 n ∷ []) behind → with_number f (behind ++ rest) ≡ Ok (f n, suc (length behind))
+after_one : (f : ℕ → Instruction) (n : ℕ) (behind rest : List ℕ) → Each IsSpelled (U30 Plain n ∷ []) behind → read_as (OfNumber f) (behind ++ rest) ≡ Ok (f n, suc (length behind))
 after_one f n behind rest s =
     let e : 1 + length behind ≡ suc (length behind) = omega arith in
-    ap (λ r. then_do r (λ m. Ok (f m.0, 1 + m.1))) (one_is n behind rest (whole_is (IsU30 n) behind s)) ∙ ap (λ k. Ok (f n, k)) e
+    ap (λ r. then_do r (λ m. Ok (f m.0, 1 + m.1))) (number_is n behind rest (whole_is (IsSpelledBy n) behind s)) ∙ ap (λ k. Ok (f n, k)) e
 
-after_two : (f : ℕ → ℕ → Instruction) (n m : ℕ) (behind rest : List ℕ) → Each IsOperand (U30 n ∷ U30 m ∷ []) behind → with_numbers f (behind ++ rest) ≡ Ok (f n m, suc (length behind))
+after_two : (f : ℕ → ℕ → Instruction) (n m : ℕ) (behind rest : List ℕ) → Each IsSpelled (U30 Plain n ∷ U30 Plain m ∷ []) behind
+    → read_as (OfNumbers f) (behind ++ rest) ≡ Ok (f n m, suc (length behind))
 after_two f n m behind rest s =
     let e : 1 + length behind ≡ suc (length behind) = omega arith in
     ap (λ r. then_do r (λ x. Ok (f x.0 x.1, 1 + x.2))) (two_is n m behind rest s) ∙ ap (λ k. Ok (f n m, k)) e
 
-after_byte : (f : ℕ → Instruction) (n : ℕ) (behind rest : List ℕ) → Each IsOperand (U8 n ∷ []) behind → with_byte f (behind ++ rest) ≡ Ok (f n, suc (length behind))
+after_byte : (f : ℕ → Instruction) (n : ℕ) (behind rest : List ℕ) → Each IsSpelled (U8 n ∷ []) behind → read_as (OfByte f) (behind ++ rest) ≡ Ok (f n, suc (length behind))
 after_byte f n behind rest s =
     let is = whole_is (IsByte n) behind s in
-    ap (λ l. with_byte f (l ++ rest)) is ∙ ap (λ l. Ok (f n, suc (length l))) (sym is)
+    ap (λ l. read_as (OfByte f) (l ++ rest)) is ∙ ap (λ l. Ok (f n, suc (length l))) (sym is)
 
-after_signed_byte : (f : ℤ → Instruction) (z : ℤ) (behind rest : List ℕ) → Each IsOperand (S8 z ∷ []) behind → with_signed_byte f (behind ++ rest) ≡ Ok (f z, suc (length behind))
+after_signed_byte : (f : ℤ → Instruction) (z : ℤ) (behind rest : List ℕ) → Each IsSpelled (S8 z ∷ []) behind → read_as (OfSignedByte f) (behind ++ rest) ≡ Ok (f z, suc (length behind))
 after_signed_byte f z behind rest s =
-    let w = whole_is (IsOperand (S8 z)) behind s in
-    ap (λ l. with_signed_byte f (l ++ rest)) w.1 ∙ ap (λ x. Ok (f x, 2)) w.2 ∙ ap (λ l. Ok (f z, suc (length l))) (sym w.1)
+    let w = whole_is (IsSpelled (S8 z)) behind s in
+    ap (λ l. read_as (OfSignedByte f) (l ++ rest)) w.1 ∙ ap (λ x. Ok (f x, 2)) w.2 ∙ ap (λ l. Ok (f z, suc (length l))) (sym w.1)
 
-after_offset : (f : ℤ → Instruction) (z : ℤ) (behind rest : List ℕ) → Each IsOperand (S24 z ∷ []) behind → with_offset f (behind ++ rest) ≡ Ok (f z, suc (length behind))
+after_offset : (f : ℤ → Instruction) (z : ℤ) (behind rest : List ℕ) → Each IsSpelled (S24 z ∷ []) behind → read_as (OfOffset f) (behind ++ rest) ≡ Ok (f z, suc (length behind))
 after_offset f z behind rest s =
-    let w = whole_is (IsOperand (S24 z)) behind s in
-    ap (λ l. with_offset f (l ++ rest)) w.3 ∙ ap (λ x. Ok (f x, 4)) w.4 ∙ ap (λ l. Ok (f z, suc (length l))) (sym w.3)
+    let w = whole_is (IsSpelled (S24 z)) behind s in
+    ap (λ l. read_as (OfOffset f) (l ++ rest)) w.3 ∙ ap (λ x. Ok (f x, 4)) w.4 ∙ ap (λ l. Ok (f z, suc (length l))) (sym w.3)
 
-four_is : (k n r x : ℕ) (bytes rest : List ℕ) → Each IsOperand (U8 k ∷ U30 n ∷ U8 r ∷ U30 x ∷ []) bytes → four_operands (bytes ++ rest) ≡ Ok (k, n, r, x, length bytes)
+four_is : (k n r x : ℕ) (bytes rest : List ℕ) → Each IsSpelled (U8 k ∷ U30 Plain n ∷ U8 r ∷ U30 Plain x ∷ []) bytes → four_operands (bytes ++ rest) ≡ Ok (k, n, r, x, length bytes)
 four_is k n r x bytes rest s =
     let f = s.second.front in
     let g = s.second.second.back in
-    let last = whole_is (IsU30 x) g s.second.second.second in
+    let last = whole_is (IsSpelledBy x) g s.second.second.second in
     let tail = r ∷ (g ++ rest) in
     let all = k ∷ (f ++ tail) in
     let kind : ℕ × ℕ = (k, 1) in
@@ -101,22 +98,20 @@ four_is k n r x bytes rest s =
     let at_last : drop (1 + length f + 1) all ≡ g ++ rest = ap (λ m. drop m all) e2 ∙ drop-append-add f tail 1 in
     let size : 1 + length f + 1 + length g ≡ length bytes = omega (arith, ap length shape, length-append f (r ∷ g)) in
     ap four_operands whole
-    ∙ ap (λ q. then_do q (four_after_name all kind)) (number_is n f tail s.second.first)
+    ∙ ap (λ y. then_do y (four_after_name all kind)) (number_is n f tail s.second.first)
     ∙ ap (λ l. then_do (one_byte l) (four_after_register all kind name)) at_third
     ∙ ap (λ l. then_do (number l) (four_done kind name register)) at_last
-    ∙ ap (λ q. then_do q (four_done kind name register)) (number_is x g rest last)
-    ∙ ap (λ b. if b && nat_lt x u30_limit then Ok (k, n, r, x, 1 + length f + 1 + length g) else Err Number) (lt-ltb n u30_limit s.second.first.below)
-    ∙ ap (λ b. if b then Ok (k, n, r, x, 1 + length f + 1 + length g) else Err Number) (lt-ltb x u30_limit last.below)
+    ∙ ap (λ y. then_do y (four_done kind name register)) (number_is x g rest last)
     ∙ ap (λ m. Ok (k, n, r, x, m)) size
 
-after_four : (f : ℕ → ℕ → ℕ → ℕ → Instruction) (k n r x : ℕ) (behind rest : List ℕ) → Each IsOperand (U8 k ∷ U30 n ∷ U8 r ∷ U30 x ∷ []) behind
-    → with_four f (behind ++ rest) ≡ Ok (f k n r x, suc (length behind))
+after_four : (f : ℕ → ℕ → ℕ → ℕ → Instruction) (k n r x : ℕ) (behind rest : List ℕ) → Each IsSpelled (U8 k ∷ U30 Plain n ∷ U8 r ∷ U30 Plain x ∷ []) behind
+    → read_as (OfFour f) (behind ++ rest) ≡ Ok (f k n r x, suc (length behind))
 after_four f k n r x behind rest s =
     let e : 1 + length behind ≡ suc (length behind) = omega arith in
-    ap (λ q. then_do q (λ y. Ok (f y.0 y.1 y.2 y.3, 1 + y.4))) (four_is k n r x behind rest s) ∙ ap (λ m. Ok (f k n r x, m)) e
+    ap (λ y. then_do y (λ z. Ok (f z.0 z.1 z.2 z.3, 1 + z.4))) (four_is k n r x behind rest s) ∙ ap (λ m. Ok (f k n r x, m)) e
 
 -- each spelling of each instruction is read, whatever follows
-after_opcode : (i : Instruction) (behind rest : List ℕ) → Each IsOperand (operands i) behind → read_operands (opcode i) (behind ++ rest) ≡ Ok (i, suc (length behind))
+after_opcode : (i : Instruction) (behind rest : List ℕ) → Each IsSpelled (operands i) behind → read_among makers (opcode i) (behind ++ rest) ≡ Ok (i, suc (length behind))
 after_opcode instruction.Label behind rest s = after_none instruction.Label behind _ refl s
 after_opcode (instruction.Jump offset) behind rest s = after_offset instruction.Jump offset behind rest s
 after_opcode (instruction.IfTrue offset) behind rest s = after_offset instruction.IfTrue offset behind rest s
@@ -179,10 +174,49 @@ after_opcode (instruction.Debug kind name register extra) behind rest s = after_
 after_opcode (instruction.DebugLine line) behind rest s = after_one instruction.DebugLine line behind rest s
 after_opcode (instruction.DebugFile file) behind rest s = after_one instruction.DebugFile file behind rest s
 
-pub spelled_is_read : (i : Instruction) (piece rest : List ℕ) → IsInstruction i piece → read_instruction (piece ++ rest) ≡ Ok (i, length piece)
-spelled_is_read i piece rest s = let o = opened i piece s in read_of i piece rest o (after_opcode i o.behind rest o.each)
+-- and so is what fits into the code
+pub fitting_is_read : (i : Instruction) (piece rest : List ℕ) → Split (IsByte (opcode i)) (Each IsSpelled (operands i)) piece → read_instruction (piece ++ rest) ≡ Ok (i, length piece)
+fitting_is_read i piece rest s = let o = opened i piece s in read_of i piece rest o (after_opcode i o.behind rest o.each)
+
+-- an operand of the table is spelled, and not too large
+operand_spelled : (o : OperandForm) (bytes : List ℕ) → IsOperand o bytes → IsSpelled o bytes
+operand_spelled (U8 n) bytes h = h
+operand_spelled (S8 z) bytes h = h
+operand_spelled (U30 of n) bytes h = h.spelled
+operand_spelled (S24 z) bytes h = h
+
+operand_small : (o : OperandForm) (bytes : List ℕ) → IsOperand o bytes → is_too_large o ≡ false
+operand_small (U8 n) bytes h = refl
+operand_small (S8 z) bytes h = refl
+operand_small (U30 of n) bytes h = lt-leb u30_limit n h.below
+operand_small (S24 z) bytes h = refl
+
+operands_spelled : (os : List OperandForm) (bytes : List ℕ) → Each IsOperand os bytes → Each IsSpelled os bytes
+operands_spelled [] bytes h = h
+operands_spelled (o ∷ os) bytes h =
+    record { front = h.front; back = h.back; is = h.is; first = operand_spelled o h.front h.first; second = operands_spelled os h.back h.second }
+
+operands_small : (os : List OperandForm) (bytes : List ℕ) → Each IsOperand os bytes → list_any is_too_large os ≡ false
+operands_small [] bytes h = refl
+operands_small (o ∷ os) bytes h = ap (λ t. t || list_any is_too_large os) (operand_small o h.front h.first) ∙ operands_small os h.back h.second
+
+-- what stands at a place fits there
+abbrev standing_fits : (code : List ℕ) (pc : ℕ) (i : Instruction) (next : ℕ) → IsAt code pc i next → Fits code pc i
+standing_fits code pc i next a =
+    let s = a.spells in
+    record { piece = a.piece; behind = a.behind; is = a.is; spells = record { front = s.front; back = s.back; is = s.is; first = s.first; second = operands_spelled (operands i) s.back s.second } }
+
+-- what is answered of an instruction whose operands fit, by the judgement of its numbers
+abbrev pub judged : ℕ → Bool → Instruction → ℕ → Reading (Instruction × ℕ)
+judged pc large i size = if large then Err Number else Ok (i, pc + size)
+
+pub fitting_is_judged : (code : List ℕ) (pc : ℕ) (i : Instruction) (f : Fits code pc i) → instruction_at code pc ≡ judged pc (list_any is_too_large (operands i)) i (length f.piece)
+fitting_is_judged code pc i f =
+    ap (λ r. then_do r (λ x. if list_any is_too_large (operands x.0) then Err Number else Ok (x.0, pc + x.1))) (ap read_instruction f.is ∙ fitting_is_read i f.piece f.behind f.spells)
 
 -- an instruction that stands at a place is read there
 pub standing_is_read : (code : List ℕ) (pc : ℕ) (i : Instruction) (next : ℕ) → IsAt code pc i next → instruction_at code pc ≡ Ok (i, next)
 standing_is_read code pc i next a =
-    ap (λ r. then_do r (λ x. Ok (x.0, pc + x.1))) (ap read_instruction a.is ∙ spelled_is_read i a.piece a.behind a.spells) ∙ ap (λ k. Ok (i, k)) (sym a.ends)
+    fitting_is_judged code pc i (standing_fits code pc i next a)
+    ∙ ap (λ t. judged pc t i (length a.piece)) (operands_small (operands i) a.spells.back a.spells.second)
+    ∙ ap (λ k. Ok (i, k)) (sym a.ends)

@@ -459,7 +459,7 @@ impl Machine {
         frame.stack.push(Operand::Class(Class::File(class)))?;
         self.resume(frame)?;
         let receiver = alone(alloc, Operand::Class(Class::File(class)))?;
-        self.open(alloc, abc, info.cinit, receiver, false)
+        self.open(alloc, abc, info.cinit.number(), receiver, false)
     }
 
     // Marks a class as made: false where it was made before, or isn't there.

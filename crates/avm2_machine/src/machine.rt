@@ -171,7 +171,7 @@ impl Machine {
         }
         self.load = Load::Scripts(number + 1);
         let receiver = alone(alloc, Operand::Script(number))?;
-        self.open(alloc, abc, scripts[number].init, receiver, false)
+        self.open(alloc, abc, scripts[number].init.number(), receiver, false)
     }
 
     // The main class is the first one of the file, if it was made and has this name.
@@ -187,7 +187,7 @@ impl Machine {
             self.fault(alloc, MachineFault::NoName);
             return Ok(None);
         };
-        match public_at(abc, instance.name) {
+        match public_at(abc, instance.name.number()) {
             Some(name) if name == main.as_str() => self.make_main(alloc, abc, instance, main),
             _ => {
                 self.fault(alloc, MachineFault::NoName);
@@ -217,7 +217,7 @@ impl Machine {
         };
         self.main = Some(object);
         let receiver = alone(alloc, Operand::Value(Value::Ref(object)))?;
-        self.enter(alloc, abc, instance.iinit, receiver, None)?;
+        self.enter(alloc, abc, instance.iinit.number(), receiver, None)?;
         let class = main.clone()?;
         Ok(Some(TraceItem::Made { object, class }))
     }

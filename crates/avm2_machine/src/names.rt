@@ -61,10 +61,10 @@ pub fn name_at(abc: &Abc, number: u32) -> Option<Name<'_>>
     let Multiname::QName { namespace, name } = multiname else {
         return None;
     };
-    let namespace = entry(abc.constant_pool.namespaces.as_slice(), *namespace)?;
+    let namespace = entry(abc.constant_pool.namespaces.as_slice(), namespace.number())?;
     Some(Name {
-        space: string_at(abc, namespace.name)?,
-        local: string_at(abc, *name)?,
+        space: string_at(abc, namespace.name.number())?,
+        local: string_at(abc, name.number())?,
     })
 }
 

@@ -11,7 +11,7 @@ ghost use Rattle.avm2_machine.specs.Tables.{fetch, body_of, body_in, first_local
 use crate::frame::{CodeFrame, Operand};
 use crate::names::{Name, name_at, native_at};
 use crate::stage::{Class, PropertyType, Slot};
-use abc_format::{Abc, MethodBody, Trait, TraitKind};
+use abc_format::{Abc, MethodBody, MultinameIndex, Trait, TraitKind};
 use avm2_code::{Instruction, instruction_at};
 use flex_base::{NoMemory, Sequence, Text, Value};
 use std::alloc::Global;
@@ -48,7 +48,7 @@ fn body_in(method: u32, bodies: &[MethodBody]) -> Option<usize>
     match bodies {
         [] => None,
         [body, rest @ ..] => {
-            if body.method == method {
+            if body.method.number() == method {
                 Some(0)
             } else {
                 Some(body_in(method, rest)? + 1)
@@ -106,13 +106,13 @@ pub fn hears_clicks(abc: &Abc, method: u32) -> bool
     }
 }
 
-fn takes_click(abc: &Abc, parameters: &[u32]) -> bool
+fn takes_click(abc: &Abc, parameters: &[MultinameIndex]) -> bool
     ensures { result ≡ takes_click abc.now parameters.now }
 {
     let [parameter] = parameters else {
         return false;
     };
-    match name_at(abc, *parameter) {
+    match name_at(abc, parameter.number()) {
         None => false,
         Some(name) => name.space == "flash.events" && name.local == "MouseEvent",
     }
@@ -148,10 +148,10 @@ fn declared_slot(alloc: Global, abc: &Abc, member: &Trait) -> Result<Option<Opti
     let TraitKind::Slot { type_name, .. } = member.kind else {
         return Ok(Some(None));
     };
-    let Some(name) = public_at(abc, member.name) else {
+    let Some(name) = public_at(abc, member.name.number()) else {
         return Ok(None);
     };
-    let Some(class) = native_at(abc, type_name) else {
+    let Some(class) = native_at(abc, type_name.number()) else {
         return Ok(None);
     };
     Ok(Some(Some(Slot {
@@ -168,10 +168,10 @@ pub fn method_named(abc: &Abc, traits: &[Trait], name: Name<'_>) -> Option<u32>
     match traits {
         [] => None,
         [member, rest @ ..] => {
-            if let Some(other) = name_at(abc, member.name) {
+            if let Some(other) = name_at(abc, member.name.number()) {
                 if other.is(&name) {
                     if let TraitKind::Method { method, .. } = member.kind {
-                        return Some(method);
+                        return Some(method.number());
                     }
                 }
             }
@@ -196,7 +196,7 @@ fn class_trait_in(name: u32, class: u32, traits: &[Trait]) -> bool
     match traits {
         [] => false,
         [member, rest @ ..] => {
-            (member.name == name && is_class(class, member.kind))
+            (member.name.number() == name && is_class(class, member.kind))
                 || class_trait_in(name, class, rest)
         }
     }
@@ -206,7 +206,7 @@ fn is_class(class: u32, kind: TraitKind) -> bool
     ensures { result ≡ is_class class kind }
 {
     match kind {
-        TraitKind::Class { class: other, .. } => other == class,
+        TraitKind::Class { class: other, .. } => other.number() == class,
         _ => false,
     }
 }

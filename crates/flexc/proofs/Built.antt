@@ -4,7 +4,7 @@ use Rattle.std.specs.Prelude.{All}
 use Rattle.std.specs.Str.{IsUtf8}
 use Rattle.std.proofs.lemmas.List.Elements.{All-from_recursion}
 use Rattle.swf_tags.specs.Spelling.{swf_bytes}
-use Rattle.abc_format.specs.Spelling.{abc_bytes}
+use Rattle.abc_writer.specs.Spelling.{abc_bytes}
 use Rattle.abc_format.specs.declared.records.Abc.{Abc}
 use Rattle.flex_front.specs.declared.document.Element.{Element}
 use Rattle.flex_front.specs.Source.{IsShort}

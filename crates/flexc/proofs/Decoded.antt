@@ -3,7 +3,8 @@ use Rattle.std.proofs.Common.{◌≡◌, ℕ, ◌+◌, List, [], ◌∷◌, ◌+
 use Rattle.std.proofs.Math.Seq.{drop-append_seam}
 use Rattle.std.proofs.lemmas.List.Elements.{All-cons, All-nil}
 use Rattle.avm2_code.specs.declared.instruction.Instruction.{Instruction}
-use Rattle.avm2_code.specs.Table.{Operand, operands}
+use Rattle.avm2_code.specs.declared.table.OperandForm.{OperandForm}
+use Rattle.avm2_code.specs.Table.{operands}
 use Rattle.avm2_code.specs.Reading.{instruction_at}
 use Rattle.avm2_code.specs.Writing.{encode}
 use Rattle.avm2_code.specs.Assembly.{FitsForm}
@@ -12,11 +13,11 @@ use Rattle.avm2_code.proofs.ReadingLaws.{standing_is_read}
 use Rattle.flexc.specs.Emitted.{encode_all}
 
 -- operands that fit their forms, one by one
-abbrev pub Fit : List Operand → Type 0
+abbrev pub Fit : List OperandForm → Type 0
 Fit [] = Unit {0}
 Fit (o ∷ os) = FitsForm o × Fit os
 
-fit_all : (os : List Operand) → Fit os → All FitsForm os
+fit_all : (os : List OperandForm) → Fit os → All FitsForm os
 fit_all [] fine = All-nil FitsForm
 fit_all (o ∷ os) fine = All-cons FitsForm o os fine.0 (fit_all os fine.1)
 

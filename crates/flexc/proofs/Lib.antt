@@ -2,6 +2,7 @@ pub mod Each
 pub mod Sizes
 pub mod WrittenSize
 pub mod Written
+pub mod Indexed
 pub mod Built
 pub mod Decoded
 pub mod Encodable

@@ -1,7 +1,7 @@
 -- The file of a document plays as the document.
 use Rattle.std.proofs.Common.{◌≡◌, ℕ, ◌+◌, ◌≤◌, List, [], ◌∷◌, length, Some, Bool, true, false, refl, sym, ap, ◌∙◌, subst}
 use Rattle.std.specs.Prelude.{All, map, if◌then◌else◌, nat_lt, codes}
-use Rattle.abc_format.specs.Spelling.{abc_bytes}
+use Rattle.abc_writer.specs.Spelling.{abc_bytes}
 use Rattle.abc_format.specs.declared.records.Abc.{Abc}
 use Rattle.flex_base.specs.declared.outcome.Outcome.TheVariants.{Stopped, Fault}
 use Rattle.flex_base.specs.declared.outcome.Stop.TheVariants.{Cells}
@@ -16,7 +16,6 @@ use Rattle.flex_base.specs.declared.event.UserEvent.{UserEvent}
 use Rattle.avm2_machine.specs.Machine.{begins, idle}
 use Rattle.script_player.specs.Playable.{IsPlayable}
 use Rattle.script_player.specs.Playing.{Config, Play, first, boot, opening, over, over_with, run, played, ComesTo, HasTrace, NeverFaults}
-use Rattle.script_player.proofs.AbcSpellingLaws.{written_is_abc}
 use Rattle.script_player.proofs.EndLaws.{one_end}
 use Rattle.script_player.proofs.FileLaws.{comes_alike, one_trace}
 use Rattle.script_player.proofs.RunLaws.{played_then, run_lifts}
@@ -31,7 +30,8 @@ use Rattle.flexc.proofs.Looked.{abc}
 use Rattle.flexc.proofs.Plays.{document_sim}
 use Rattle.flexc.proofs.Sims.{Sim, sim_done}
 use Rattle.flexc.proofs.States.{one, machine_of, at}
-use Rattle.flexc.proofs.Written.{abc_is_written}
+use Rattle.flexc.proofs.Written.{abc-spelled}
+use Rattle.flexc.proofs.Indexed.{abc-named}
 
 module _ (p : Abc) where
   -- the play comes to the story that a meaning tells
@@ -130,8 +130,7 @@ module _ (d : Document) (few : length d.elements ≤ 100) (short : All IsShort d
     code = abc_bytes (abc_of d.elements);
     abc = abc_of d.elements;
     file = built_is_swf d.elements few short;
-    program = written_is_abc (abc_of d.elements) (abc_is_written d.elements few short);
-    forms = abc_is_written d.elements few short;
+    program = record { spelled = abc-spelled d.elements few short; indexes = abc-named d.elements };
   }
 
   same_trace : (events : List UserEvent) (turns : ℕ) → HasTrace bytes events turns (source_trace d events turns)

@@ -5,7 +5,7 @@ use Rattle.std.specs.List.{flat_map}
 use Rattle.std.proofs.Math.Nat.{mul-suc, mul-le-mul_left}
 use Rattle.std.proofs.lemmas.List.Elements.{All-head, All-tail, All-nil, All-cons, All-append}
 use Rattle.abc_format.specs.Numbers.{u30_bytes, int_bytes}
-use Rattle.abc_format.specs.Spelling.{counted, table, table_count}
+use Rattle.abc_writer.specs.Spelling.{counted, table, table_count}
 use Rattle.avm2_code.proofs.SizeLaws.{u30-length}
 use Rattle.flex_front.specs.declared.document.Element.{Element}
 use Rattle.flex_front.specs.declared.document.Element.TheVariants.{Label, Button}
@@ -110,11 +110,19 @@ each_handler-length f h k (Label id text ∷ es) = let le = each_handler-length 
 each_handler-length f h k (Button id None ∷ es) = let le = each_handler-length f h (suc k) es in omega arith
 each_handler-length f h k (Button id (Some text) ∷ es) = let le = each_handler-length f (suc h) (suc k) es in omega arith
 
--- what holds of the item of each two numbers holds of them all
-pub each_handler-all : {A : Type 0} (P : A → Type 0) (f : ℕ → ℕ → A) (h k most : ℕ) (es : List Element) → h ≤ k → k + length es ≤ most
-    → ((i j : ℕ) → i < most → j < most → P (f i j)) → All P (each_handler f h k es)
-each_handler-all P f h k most [] low le each = All-nil P
-each_handler-all P f h k most (Label id text ∷ es) low le each = each_handler-all P f h (suc k) most es (omega arith) (omega arith) each
-each_handler-all P f h k most (Button id None ∷ es) low le each = each_handler-all P f h (suc k) most es (omega arith) (omega arith) each
-each_handler-all P f h k most (Button id (Some text) ∷ es) low le each =
-    All-cons P (f h k) (each_handler f (suc h) (suc k) es) (each h k (omega arith) (omega arith)) (each_handler-all P f (suc h) (suc k) most es (omega arith) (omega arith) each)
+-- as many items, whatever they are
+pub each_handler-same : {A B : Type 0} (f : ℕ → ℕ → A) (g : ℕ → ℕ → B) (h k i j : ℕ) (es : List Element) → length (each_handler f h k es) ≡ length (each_handler g i j es)
+each_handler-same f g h k i j [] = refl
+each_handler-same f g h k i j (Label id text ∷ es) = each_handler-same f g h (suc k) i (suc j) es
+each_handler-same f g h k i j (Button id None ∷ es) = each_handler-same f g h (suc k) i (suc j) es
+each_handler-same f g h k i j (Button id (Some text) ∷ es) = ap suc (each_handler-same f g (suc h) (suc k) (suc i) (suc j) es)
+
+-- what holds of the item of each two numbers, that of a handler and that of its element, holds of them all
+pub each_handler-all : {A : Type 0} (P : A → Type 0) (f : ℕ → ℕ → A) (h k last most : ℕ) (es : List Element) → h + length (each_handler f h k es) ≤ last → k + length es ≤ most
+    → ((i j : ℕ) → i < last → j < most → P (f i j)) → All P (each_handler f h k es)
+each_handler-all P f h k last most [] handlers elements each = All-nil P
+each_handler-all P f h k last most (Label id text ∷ es) handlers elements each = each_handler-all P f h (suc k) last most es handlers (omega arith) each
+each_handler-all P f h k last most (Button id None ∷ es) handlers elements each = each_handler-all P f h (suc k) last most es handlers (omega arith) each
+each_handler-all P f h k last most (Button id (Some text) ∷ es) handlers elements each =
+    All-cons P (f h k) (each_handler f (suc h) (suc k) es) (each h k (omega arith) (omega arith))
+    (each_handler-all P f (suc h) (suc k) last most es (omega arith) (omega arith) each)

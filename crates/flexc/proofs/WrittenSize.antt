@@ -10,7 +10,7 @@ use Rattle.byteorder.specs.Endian.{little_bytes}
 use Rattle.std.specs.List.{flat_map, list_all}
 use Rattle.std.proofs.lemmas.List.Elements.{All-head, All-tail, All-nil, All-cons, All-append, All-from_recursion}
 use Rattle.abc_format.specs.Numbers.{u30_bytes, int_bytes}
-use Rattle.abc_format.specs.Spelling.{counted, table, string_bytes_of, namespace_bytes, multiname_bytes, method_bytes, metadata_bytes, trait_bytes, instance_bytes, class_bytes, script_bytes, body_bytes, pool_bytes, abc_bytes}
+use Rattle.abc_writer.specs.Spelling.{counted, table, string_bytes_of, namespace_bytes, multiname_bytes, method_bytes, metadata_bytes, trait_bytes, instance_bytes, class_bytes, script_bytes, body_bytes, pool_bytes, abc_bytes}
 use Rattle.abc_format.specs.declared.records.Multiname.{Multiname}
 use Rattle.abc_format.specs.declared.records.Multiname.TheVariants.{QName}
 use Rattle.abc_format.specs.declared.records.Trait.{Trait}
@@ -57,7 +57,7 @@ handler_method-within = let h = u30-within 1 ⊕ u30-within 0 ⊕ (u30-within 10
 methods-within : (es : List Element) → length es ≤ 100 → Within 2200 (counted method_bytes (methods_of es))
 methods-within es few =
     let le = each_handler-length (λ h k. handler_method) 0 0 es in
-    let all = each_handler-all (λ m. Within 21 (method_bytes m)) (λ h k. handler_method) 0 0 100 es (omega arith) (omega arith) (λ h k is lt. handler_method-within) in
+    let all = each_handler-all (λ m. Within 21 (method_bytes m)) (λ h k. handler_method) 0 0 100 100 es (omega arith) (omega arith) (λ h k is lt. handler_method-within) in
     let handlers = flat_map-within method_bytes 21 (each_handler (λ h k. handler_method) 0 0 es) all in
     let h = u30-within (length (methods_of es)) ⊕ (method-within ⊕ (method-within ⊕ (method-within ⊕ (method-within ⊕ handlers)))) in
     loosen h (omega arith)
@@ -96,18 +96,17 @@ instance_traits-length es =
     omega (arith, length-append (each_element (λ k x. id_trait k x ∷ []) 0 es) (building_trait ∷ each_handler handler_trait 0 0 es))
 
 -- what holds of the slots, of the method and of the handlers holds of all the traits
-pub instance_traits-all : (P : Trait → Type 0) (es : List Element) → length es ≤ 100 → ((k : ℕ) (e : Element) → k < 100 → P (id_trait k e)) → P building_trait
-    → ((h k : ℕ) → h < 100 → k < 100 → P (handler_trait h k)) → All P (instance_traits es)
-instance_traits-all P es few slot method handler =
-    let slots = each_element-all P id_trait 0 100 es (omega arith) slot in
-    let handlers = each_handler-all P handler_trait 0 0 100 es (omega arith) (omega arith) handler in
+pub instance_traits-all : (P : Trait → Type 0) (es : List Element) → ((k : ℕ) (e : Element) → k < length es → P (id_trait k e)) → P building_trait
+    → ((h k : ℕ) → h < length (each_handler handler_trait 0 0 es) → k < length es → P (handler_trait h k)) → All P (instance_traits es)
+instance_traits-all P es slot method handler =
+    let slots = each_element-all P id_trait 0 (length es) es (omega arith) slot in
+    let handlers = each_handler-all P handler_trait 0 0 (length (each_handler handler_trait 0 0 es)) (length es) es (omega arith) (omega arith) handler in
     All-append P (each_element (λ k x. id_trait k x ∷ []) 0 es) (building_trait ∷ each_handler handler_trait 0 0 es) slots (All-cons P building_trait (each_handler handler_trait 0 0 es) method handlers)
 
 -- the size of all the traits of the instance
 traits-within : (es : List Element) → length es ≤ 100 → Within 8045 (counted trait_bytes (instance_traits es))
 traits-within es few =
-    let handlers = λ (h k : ℕ) (is : h < 100) (lt : k < 100). handler_trait-within h k in
-    let all = instance_traits-all (λ t. Within 40 (trait_bytes t)) es few (λ k e lt. id_trait-within k e) building_trait-within handlers in
+    let all = instance_traits-all (λ t. Within 40 (trait_bytes t)) es (λ k e lt. id_trait-within k e) building_trait-within (λ h k is lt. handler_trait-within h k) in
     let le = instance_traits-length es in
     counted-within trait_bytes 40 201 (instance_traits es) all (omega arith)
 
@@ -144,7 +143,7 @@ bodies-within es few =
     let constructor = body-within 2 1 1 105 (encode_all constructor_code) (encode_all-within constructor_code) in
     let building = body-within 3 4 2 (336 * length es + 21) (encode_all (building_code es)) (building_code-within es) in
     let le = each_handler-length handler_body 0 0 es in
-    let all = each_handler-all (λ b. Within 124 (body_bytes b)) handler_body 0 0 100 es (omega arith) (omega arith) (λ h k is lt. handler_body-within h k) in
+    let all = each_handler-all (λ b. Within 124 (body_bytes b)) handler_body 0 0 100 100 es (omega arith) (omega arith) (λ h k is lt. handler_body-within h k) in
     let handlers = flat_map-within body_bytes 124 (each_handler handler_body 0 0 es) all in
     let h = u30-within (length (bodies_of es)) ⊕ (script ⊕ (static ⊕ (constructor ⊕ (building ⊕ handlers)))) in
     loosen h (omega arith)
@@ -159,9 +158,10 @@ namespaces-within =
 qname-within : (namespace name : ℕ) → Within 11 (multiname_bytes (QName namespace name))
 qname-within namespace name = let h = one 7 ⊕ u30-within namespace ⊕ u30-within name in loosen h (omega arith)
 
--- what holds of each low pair of numbers as a name holds of all the names
-pub names-all : (P : Multiname → Type 0) (count : ℕ) → count ≤ 100 → ((namespace name : ℕ) → namespace < 1000 → name < 1000 → P (QName namespace name)) → All P (fixed_names ++ each_from element_names 0 count)
-names-all P count few each =
+-- what holds of each name of a string in a namespace of the pool holds of all the names
+pub names-all : (P : Multiname → Type 0) (count : ℕ) → ((namespace name : ℕ) → namespace ≤ 4 → name ≤ 15 + 3 * count → P (QName namespace name))
+    → All P (fixed_names ++ each_from element_names 0 count)
+names-all P count each =
     let fixed = All-from_recursion P fixed_names (
       each 1 1 (omega arith) (omega arith),
       (
@@ -187,9 +187,9 @@ names-all P count few each =
         ),
       ),
     ) in
-    let pair = λ (k : ℕ) (lt : k < 100).
+    let pair = λ (k : ℕ) (lt : k < count).
     All-from_recursion P (element_names k) (each 1 (id_string k) (omega arith) (omega arith), (each 3 (handler_string k) (omega arith) (omega arith), tt)) in
-    All-append P fixed_names (each_from element_names 0 count) fixed (each_from-all P element_names 0 count 100 (omega arith) pair)
+    All-append P fixed_names (each_from element_names 0 count) fixed (each_from-all P element_names 0 count count (omega arith) pair)
 
 -- how many names the pool has
 pub names-length : (count : ℕ) → length (fixed_names ++ each_from element_names 0 count) ≡ 10 + 2 * count
@@ -200,7 +200,7 @@ names-within : (count : ℕ) → count ≤ 100 → Within 2315 (table multiname_
 names-within count few =
     let names = fixed_names ++ each_from element_names 0 count in
     let e = names-length count in
-    let all = names-all (λ m. Within 11 (multiname_bytes m)) count few (λ namespace name lt less. qname-within namespace name) in
+    let all = names-all (λ m. Within 11 (multiname_bytes m)) count (λ namespace name lt less. qname-within namespace name) in
     table-within multiname_bytes 11 210 names all (omega arith)
 
 -- the size of all the ints

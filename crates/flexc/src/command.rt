@@ -1,7 +1,7 @@
 // The top call.
 
 ghost use Rattle.std.specs.Prelude.{◌≡◌, ◌≤◌, ◌++◌, [], ◌∷◌, IfOk, decimal, length};
-ghost use Rattle.abc_format.specs.Spelling.{abc_bytes};
+ghost use Rattle.abc_writer.specs.Spelling.{abc_bytes};
 ghost use Rattle.flex_base.specs.declared.outcome.Outcome.TheVariants.{Ended, Stopped, TurnsSpent};
 ghost use Rattle.flex_base.specs.declared.outcome.Stop.TheVariants.{Cells};
 ghost use Rattle.swf_tags.specs.Spelling.{swf_bytes};
@@ -19,7 +19,7 @@ ghost use Rattle.flexc.specs.Work.{ReadsJob, Reports, Works, read_failure};
 use crate::emit::{MAIN, emit};
 use crate::script::{ScriptRefusal, read_script};
 use crate::words::{Run, read_words};
-use abc_format::write_abc;
+use abc_writer::write_abc;
 use flex_base::{Bytes, NoMemory, Outcome, Script, Text};
 use flex_edge::{Files, Observer, ReadRefusal, Refused, Sink, print, read_file, write_file};
 use flex_front::{Document, SourceRefusal, read_source};

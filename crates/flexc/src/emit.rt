@@ -9,8 +9,9 @@ ghost use Rattle.avm2_code.specs.declared.instruction.Instruction.TheVariants.{G
 ghost use Rattle.flexc.specs.Emitted.{encode_all, each_from, each_handler, fixed_strings, element_strings, handler_text, class_number, id_string, text_string, handler_string, id_name, handler_name, rank_int, fixed_names, element_names, namespaces, pool_of, plain_method, handler_method, methods_of, handler_number, bindable, id_trait, building_trait, handler_trait, instance_traits, instance_of, class_info, script_info, making_code, place_code, element_code, building_code, handler_code, body, handler_body, bodies_of, abc_of};
 
 use abc_format::{
-    Abc, ClassInfo, ConstantPool, InstanceInfo, MetadataInfo, MethodBody, MethodInfo, Multiname,
-    Namespace, NamespaceKind, ScriptInfo, Trait, TraitKind,
+    Abc, ClassIndex, ClassInfo, ConstantPool, InstanceInfo, MetadataIndex, MetadataInfo, MethodBody,
+    MethodIndex, MethodInfo, Multiname, MultinameIndex, Namespace, NamespaceIndex, NamespaceKind,
+    ScriptInfo, StringIndex, Trait, TraitKind,
 };
 use avm2_code::{Instruction, Part, Parts, assemble};
 use flex_base::{Bytes, NoMemory, Sequence, Text};
@@ -272,19 +273,19 @@ fn namespaces(alloc: Global) -> Result<Sequence<Namespace>, NoMemory>
     let mut namespaces = Sequence::new(alloc);
     namespaces.push(Namespace {
         kind: NamespaceKind::PackageNamespace,
-        name: 0,
+        name: StringIndex::new(0),
     })?;
     namespaces.push(Namespace {
         kind: NamespaceKind::PackageNamespace,
-        name: COMPONENTS_STRING,
+        name: StringIndex::new(COMPONENTS_STRING),
     })?;
     namespaces.push(Namespace {
         kind: NamespaceKind::Namespace,
-        name: RUNTIME_STRING,
+        name: StringIndex::new(RUNTIME_STRING),
     })?;
     namespaces.push(Namespace {
         kind: NamespaceKind::PackageNamespace,
-        name: EVENTS_STRING,
+        name: StringIndex::new(EVENTS_STRING),
     })?;
     Ok(namespaces)
 }
@@ -323,7 +324,10 @@ fn put_element_names(multinames: &mut Sequence<Multiname>, element: u32) -> Resu
 fn qualified(namespace: u32, name: u32) -> Multiname
     ensures { result ≡ Multiname.QName namespace name }
 {
-    Multiname::QName { namespace, name }
+    Multiname::QName {
+        namespace: NamespaceIndex::new(namespace),
+        name: StringIndex::new(name),
+    }
 }
 
 fn methods(alloc: Global, elements: &[Element]) -> Result<Sequence<MethodInfo>, NoMemory>
@@ -343,9 +347,9 @@ fn plain_method(alloc: Global) -> MethodInfo
     ensures { result ≡ plain_method }
 {
     MethodInfo {
-        return_type: 0,
+        return_type: MultinameIndex::new(0),
         param_types: Sequence::new(alloc),
-        name: 0,
+        name: StringIndex::new(0),
         flags: 0,
         options: Sequence::new(alloc),
         param_names: Sequence::new(alloc),
@@ -375,11 +379,11 @@ fn handler_method(alloc: Global) -> Result<MethodInfo, NoMemory>
     ensures { IfOk result (λ method. method ≡ handler_method) }
 {
     let mut param_types = Sequence::new(alloc);
-    param_types.push(MOUSE_EVENT_NAME)?;
+    param_types.push(MultinameIndex::new(MOUSE_EVENT_NAME))?;
     Ok(MethodInfo {
-        return_type: 0,
+        return_type: MultinameIndex::new(0),
         param_types,
-        name: 0,
+        name: StringIndex::new(0),
         flags: 0,
         options: Sequence::new(alloc),
         param_names: Sequence::new(alloc),
@@ -399,7 +403,7 @@ fn metadata(alloc: Global) -> Result<Sequence<MetadataInfo>, NoMemory>
 {
     let mut metadata = Sequence::new(alloc);
     metadata.push(MetadataInfo {
-        name: BINDABLE_STRING,
+        name: StringIndex::new(BINDABLE_STRING),
         items: Sequence::new(alloc),
     })?;
     Ok(metadata)
@@ -412,12 +416,12 @@ fn instances(alloc: Global, elements: &[Element]) -> Result<Sequence<InstanceInf
     let traits = instance_traits(alloc, elements)?;
     let mut instances = Sequence::new(alloc);
     instances.push(InstanceInfo {
-        name: MAIN_NAME,
-        super_name: APPLICATION_NAME,
+        name: MultinameIndex::new(MAIN_NAME),
+        super_name: MultinameIndex::new(APPLICATION_NAME),
         flags: SEALED,
-        protected_namespace: 0,
+        protected_namespace: NamespaceIndex::new(0),
         interfaces: Sequence::new(alloc),
-        iinit: CONSTRUCTOR,
+        iinit: MethodIndex::new(CONSTRUCTOR),
         traits,
     })?;
     Ok(instances)
@@ -442,12 +446,12 @@ fn id_trait(alloc: Global, number: u32, element: &Element) -> Result<Trait, NoMe
     ensures { IfOk result (λ member. member ≡ id_trait number element.now) }
 {
     let mut metadata = Sequence::new(alloc);
-    metadata.push(0)?;
+    metadata.push(MetadataIndex::new(0))?;
     Ok(Trait {
-        name: id_name(number),
+        name: MultinameIndex::new(id_name(number)),
         kind: TraitKind::Slot {
             slot_id: 0,
-            type_name: class_number(element),
+            type_name: MultinameIndex::new(class_number(element)),
             vindex: 0,
             vkind: 0,
         },
@@ -461,10 +465,10 @@ fn building_trait(alloc: Global) -> Trait
     ensures { result ≡ building_trait }
 {
     Trait {
-        name: BUILDING_NAME,
+        name: MultinameIndex::new(BUILDING_NAME),
         kind: TraitKind::Method {
             disp_id: 0,
-            method: BUILDING,
+            method: MethodIndex::new(BUILDING),
         },
         attributes: 0,
         metadata: Sequence::new(alloc),
@@ -500,10 +504,10 @@ fn handler_trait(alloc: Global, handler: u32, number: u32) -> Trait
     ensures { result ≡ handler_trait handler number }
 {
     Trait {
-        name: handler_name(number),
+        name: MultinameIndex::new(handler_name(number)),
         kind: TraitKind::Method {
             disp_id: 0,
-            method: handler_number(handler),
+            method: MethodIndex::new(handler_number(handler)),
         },
         attributes: 0,
         metadata: Sequence::new(alloc),
@@ -515,7 +519,7 @@ fn classes(alloc: Global) -> Result<Sequence<ClassInfo>, NoMemory>
 {
     let mut classes = Sequence::new(alloc);
     classes.push(ClassInfo {
-        cinit: CLASS_INITIALISER,
+        cinit: MethodIndex::new(CLASS_INITIALISER),
         traits: Sequence::new(alloc),
     })?;
     Ok(classes)
@@ -526,17 +530,17 @@ fn scripts(alloc: Global) -> Result<Sequence<ScriptInfo>, NoMemory>
 {
     let mut traits = Sequence::new(alloc);
     traits.push(Trait {
-        name: MAIN_NAME,
+        name: MultinameIndex::new(MAIN_NAME),
         kind: TraitKind::Class {
             slot_id: 0,
-            class: 0,
+            class: ClassIndex::new(0),
         },
         attributes: 0,
         metadata: Sequence::new(alloc),
     })?;
     let mut scripts = Sequence::new(alloc);
     scripts.push(ScriptInfo {
-        init: SCRIPT_INITIALISER,
+        init: MethodIndex::new(SCRIPT_INITIALISER),
         traits,
     })?;
     Ok(scripts)
@@ -775,7 +779,7 @@ fn body(alloc: Global, method: u32, max_stack: u32, local_count: u32, code: Byte
     ensures { result ≡ body method max_stack local_count code }
 {
     MethodBody {
-        method,
+        method: MethodIndex::new(method),
         max_stack,
         local_count,
         init_scope_depth: 0,

@@ -1,16 +1,15 @@
 -- What a file that is played says is determined by its bytes.
-use Rattle.flex_base.proofs.OptionLaws.{some_is}
 use Rattle.flex_base.proofs.ResultLaws.{ok_is}
-use Rattle.std.proofs.Common.{◌≡◌, ℕ, List, Some, Ok, sym, ap, ◌∙◌, subst}
+use Rattle.std.proofs.Common.{◌≡◌, ℕ, List, Ok, sym, ap, ◌∙◌, subst}
 use Rattle.flex_base.specs.declared.event.UserEvent.{UserEvent}
-use Rattle.script_player.specs.AbcReader.{read_abc}
+use Rattle.abc_format.specs.Reading.{read_abc}
 use Rattle.script_player.specs.Playable.{IsPlayable}
 use Rattle.script_player.specs.Playing.{boot, ComesTo, HasTrace}
 use Rattle.swf_tags.specs.Reading.{read_swf}
 use Rattle.swf_tags.specs.declared.types.Swf.{Swf}
 use Rattle.swf_tags.proofs.SwfLaws.{swf_is_read}
 use Rattle.flex_base.specs.Story.{Story}
-use Rattle.script_player.proofs.AbcRead.{abc_is_read}
+use Rattle.abc_format.proofs.AbcLaws.{abc_is_read}
 use Rattle.script_player.proofs.EndLaws.{one_story}
 
 -- what a file that is played says
@@ -21,8 +20,8 @@ saying swf f = record { version = f.version; tags = f.tags; abc = f.code; main =
 pub file_is_read : (swf : List ℕ) (f : IsPlayable swf) → read_swf swf ≡ Ok (saying swf f)
 file_is_read swf f = swf_is_read swf (saying swf f) f.file
 
-pub program_is_read : (swf : List ℕ) (f : IsPlayable swf) → read_abc f.code ≡ Some f.abc
-program_is_read swf f = abc_is_read f.abc f.code f.program f.forms
+pub program_is_read : (swf : List ℕ) (f : IsPlayable swf) → read_abc f.code ≡ Ok f.abc
+program_is_read swf f = abc_is_read f.abc f.code f.program
 
 -- two readings of a file say the same
 same_saying : (swf : List ℕ) (f g : IsPlayable swf) → saying swf f ≡ saying swf g
@@ -34,7 +33,7 @@ same_main swf f g = ap (λ (s : Swf). s.main) (same_saying swf f g)
 pub same_abc : (swf : List ℕ) (f g : IsPlayable swf) → f.abc ≡ g.abc
 same_abc swf f g =
     let code : f.code ≡ g.code = ap (λ (s : Swf). s.abc) (same_saying swf f g) in
-    some_is _ _ (sym (program_is_read swf f) ∙ ap read_abc code ∙ program_is_read swf g)
+    ok_is (read_abc g.code) _ _ (sym (ap read_abc code) ∙ program_is_read swf f) (program_is_read swf g)
 
 -- what one reading of the file comes to, any other comes to
 pub comes_alike : (swf : List ℕ) (events : List UserEvent) (turns : ℕ) (story : Story) (f g : IsPlayable swf)

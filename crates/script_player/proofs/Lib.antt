@@ -1,11 +1,6 @@
-pub mod AbcNumbers
-pub mod AbcRead
-pub mod AbcSpellingLaws
 pub mod EndLaws
 pub mod FileLaws
 pub mod RunLaws
-pub mod Lists
 pub mod Played
 pub mod Ran
 pub mod Shown
-pub mod Texts

@@ -3,7 +3,6 @@ use Rattle.flex_base.proofs.ResultLaws.{ok_is}
 use Rattle.std.proofs.Common.{◌≡◌, ℕ, List, [], ◌++◌, None, Some, Ok, Err, Result, refl, sym, ap, ◌∙◌, subst, append_assoc}
 use Rattle.std.proofs.lemmas.List.{append-nil}
 use Rattle.abc_format.specs.declared.records.Abc.{Abc}
-use Rattle.flex_base.proofs.OptionLaws.{some_is}
 use Rattle.flex_base.specs.Line.{outcome_line}
 use Rattle.flex_base.specs.declared.outcome.Outcome.{Outcome}
 use Rattle.flex_edge.specs.Outside.{Rose, SinkState}
@@ -11,7 +10,8 @@ use Rattle.flex_base.specs.declared.event.UserEvent.{UserEvent}
 use Rattle.avm2_machine.specs.declared.machine.Machine.{Machine}
 use Rattle.flex_edge.specs.declared.refused.Refused.{Refused}
 use Rattle.flex_edge.specs.declared.refused.Refused.TheVariants as refused
-use Rattle.script_player.specs.AbcReader.{read_abc}
+use Rattle.abc_format.specs.Fields as abc
+use Rattle.abc_format.specs.Reading.{read_abc, abc_fault, fault_of}
 use Rattle.script_player.specs.Playable.{IsPlayable}
 use Rattle.script_player.specs.Playing.{boot, ComesTo, HasTrace}
 use Rattle.script_player.specs.Printed.{HasShown, HasPrinted, PrintsText, Plays}
@@ -80,9 +80,6 @@ module _ (abc : Abc) (main : List ℕ) (events : List UserEvent) (from : Machine
     told = λ t. line_part outcome old mid new s (s.printed.told t) (p.told (s.printed.tells ∙ t));
   }
 
-none_is : {A : Type 0} (a : A) → Some a ≡ None → ⊥
-none_is a e = cc
-
 module _ (swf : List ℕ) (f : IsPlayable swf) where
   pub file_is_there : (fault : Fault) → read_swf swf ≡ Err fault → ⊥
   file_is_there fault bad = let read = file_is_read swf f in cc
@@ -94,14 +91,17 @@ module _ (swf : List ℕ) (f : IsPlayable swf) where
     main_is : f.main ≡ file.main
     main_is = ap (λ (s : Swf). s.main) (ok_is (read_swf swf) _ _ (file_is_read swf f) is)
 
-    pub program_is_there : read_abc file.abc ≡ None → ⊥
-    program_is_there none = none_is _ (sym (program_is_read swf f) ∙ ap read_abc code_is ∙ none)
+    program_said : read_abc file.abc ≡ Ok f.abc
+    program_said = sym (ap read_abc code_is) ∙ program_is_read swf f
+
+    pub program_is_there : (fault : abc.Fault) → abc_fault file.abc ≡ Some fault → ⊥
+    program_is_there fault bad = let none : abc_fault file.abc ≡ None = ap fault_of program_said in cc
 
     -- what was read of the file was played
-    pub file_played : (abc : Abc) (events : List UserEvent) (turns : ℕ) (result : Result Outcome Refused) (old new : SinkState) → read_abc file.abc ≡ Some abc
+    pub file_played : (abc : Abc) (events : List UserEvent) (turns : ℕ) (result : Result Outcome Refused) (old new : SinkState) → read_abc file.abc ≡ Ok abc
         → PrintsText (ComesTo abc file.main events (boot abc turns)) old result new → Plays swf events turns old result new
     file_played abc events turns result old new program =
-        let abc_is : f.abc ≡ abc = some_is _ _ (sym (program_is_read swf f) ∙ ap read_abc code_is ∙ program) in
+        let abc_is : f.abc ≡ abc = ok_is (read_abc file.abc) _ _ program_said program in
         printed_alike (ComesTo abc file.main events (boot abc turns)) (HasTrace swf events turns) old new result
         (λ story c. record { file = f; comes = subst (λ a. ComesTo a f.main events (boot a turns) story) (sym abc_is) (subst (λ m. ComesTo abc m events (boot abc turns) story) (sym main_is) c) })
         (λ story t. subst (λ a. ComesTo a file.main events (boot a turns) story) abc_is (subst (λ m. ComesTo f.abc m events (boot f.abc turns) story) main_is (comes_alike swf events turns story t.file f t.comes)))

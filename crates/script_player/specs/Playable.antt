@@ -1,12 +1,11 @@
 -- The files that are played.
 use Rattle.std.specs.Prelude.{ℕ, List}
-use Rattle.abc_format.specs.Grammar.{IsAbc}
+use Rattle.abc_format.specs.AbcLaws.{StandsFor}
 use Rattle.abc_format.specs.declared.records.Abc.{Abc}
 use Rattle.swf_tags.specs.File.{IsSwf}
 use Rattle.swf_tags.specs.declared.types.Tag.{Tag}
-use Rattle.script_player.specs.AbcLaws.{IsWritten}
 
--- a SWF file whose program stands for an ABC of the forms that are read
+-- a SWF file whose program stands for an ABC
 pub record IsPlayable (swf : List ℕ) : Type 0 where
   pub version : ℕ
   pub tags : List Tag
@@ -14,5 +13,4 @@ pub record IsPlayable (swf : List ℕ) : Type 0 where
   pub code : List ℕ
   pub abc : Abc
   pub file : IsSwf version tags code main swf
-  pub program : IsAbc abc code
-  pub forms : IsWritten abc
+  pub program : StandsFor abc code

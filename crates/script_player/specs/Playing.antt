@@ -1,5 +1,5 @@
 -- What the bytes of a SWF file mean: the trace of their play.
-use Rattle.std.specs.Prelude.{◌≡◌, ◌≢◌, ℕ, zero, suc, List, [], ◌∷◌, ◌++◌, length, Bool, true, Option, Some, None}
+use Rattle.std.specs.Prelude.{◌≡◌, ◌≢◌, ◌<◌, ℕ, zero, suc, List, [], ◌∷◌, ◌++◌, length, Bool, true, Option, Some, None}
 use Rattle.abc_format.specs.declared.records.Abc.{Abc}
 use Rattle.flex_base.specs.declared.outcome.MachineFault.{MachineFault}
 use Rattle.flex_base.specs.declared.outcome.Outcome.{Outcome}
@@ -8,6 +8,7 @@ use Rattle.flex_base.specs.declared.record.TraceItem.{TraceItem}
 use Rattle.avm2_machine.specs.declared.machine.Machine.{Machine}
 use Rattle.flex_base.specs.declared.event.UserEvent.{UserEvent}
 use Rattle.avm2_machine.specs.Machine.{Moved, start, begins, step, idle, result_of}
+use Rattle.avm2_machine.specs.Progress.{remaining}
 use Rattle.script_player.specs.Playable.{IsPlayable}
 use Rattle.flex_base.specs.Story.{Story}
 
@@ -80,6 +81,10 @@ pub record ComesTo (abc : Abc) (main : List ℕ) (events : List UserEvent) (from
   pub steps : ℕ
   pub ends : over (played abc main steps (opening events from)) ≡ Some story.outcome
   pub shows : (played abc main steps (opening events from)).config.records ≡ story.records
+
+-- unless the machine rested, less remains
+abbrev pub ComesNearer : Abc → Machine → Machine → Type 0
+ComesNearer abc old new = result_of old ≡ None → remaining abc new < remaining abc old
 
 -- the machine before the load of a program
 abbrev pub boot : Abc → ℕ → Machine

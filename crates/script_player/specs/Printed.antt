@@ -7,16 +7,21 @@ use Rattle.flex_edge.specs.Outside.{Rose, SinkState}
 use Rattle.flex_edge.specs.Calls.{SinkChanges}
 use Rattle.flex_base.specs.declared.event.UserEvent.{UserEvent}
 use Rattle.avm2_machine.specs.declared.machine.Machine.{Machine}
+use Rattle.avm2_machine.specs.Machine.{step}
 use Rattle.flex_edge.specs.declared.refused.Refused.{Refused}
 use Rattle.flex_edge.specs.declared.refused.Refused.TheVariants as refused
-use Rattle.script_player.specs.Playing.{first, run, ComesTo, HasTrace}
+use Rattle.script_player.specs.Playing.{first, run, boot, ComesTo, HasTrace}
 use Rattle.flex_base.specs.Story.{Story, record_line, lines, text}
-use Rattle.flex_edge.specs.Whole.{HasTaken}
+use Rattle.flex_edge.specs.Whole.{HasTaken, Prints}
 
 -- the line of the record that a step made, if any
 abbrev pub item_lines : Option TraceItem → List ℕ
 item_lines None = []
 item_lines (Some item) = record_line item
+
+-- what one step of the machine prints
+abbrev pub PrintsStep : Abc → List ℕ → Machine → SinkState → Result (Unit {0}) Refused → SinkState → Type 0
+PrintsStep abc main m old result new = Prints old (item_lines (step abc main m).item) result new
 
 -- the machine made some steps by itself, and a line for each record was printed
 pub record HasRun (abc : Abc) (main : List ℕ) (from to : Machine) (old new : SinkState) : Type 0 where
@@ -64,6 +69,10 @@ PrintsText P old (Err refused.Failed) new =
     SinkChanges old new (Rose old.write_faults new.write_faults) ((story : Story) → P story → HasTaken (text story) old new)
 PrintsText P old (Err refused.NoMemory) new =
     SinkChanges old new (new.write_faults ≡ old.write_faults) ((story : Story) → P story → HasTaken (text story) old new)
+
+-- what the play of a program with a script and so many turns prints
+abbrev pub PlaysProgram : Abc → List ℕ → List UserEvent → ℕ → SinkState → Result Outcome Refused → SinkState → Type 0
+PlaysProgram abc main events turns old result new = PrintsText (ComesTo abc main events (boot abc turns)) old result new
 
 -- what the play of the bytes with a script and so many turns prints
 abbrev pub HasPlayed : List ℕ → List UserEvent → ℕ → Outcome → SinkState → SinkState → Type 0

@@ -1,16 +1,14 @@
 // The playing of a SWF file.
 
-ghost use Rattle.std.specs.Prelude.{◌≡◌, ◌≢◌, ◌<◌, [], None, OnOk};
+ghost use Rattle.std.specs.Prelude.{◌≡◌, ◌≢◌, None, OnOk};
 ghost use Rattle.avm2_machine.specs.Machine.{result_of, step};
-ghost use Rattle.avm2_machine.specs.Progress.{remaining};
 ghost use Rattle.script_player.specs.Playable.{IsPlayable};
-ghost use Rattle.script_player.specs.Playing.{ComesTo, boot};
-ghost use Rattle.script_player.specs.Printed.{Plays, PrintsText, Runs, Shows, item_lines};
+ghost use Rattle.script_player.specs.Playing.{ComesNearer};
+ghost use Rattle.script_player.specs.Printed.{Plays, PlaysProgram, PrintsStep, Runs, Shows};
 ghost use Rattle.flex_base.specs.Story.{record_line, with_end};
 ghost use Rattle.flex_edge.specs.Whole.{Prints};
 
-use crate::abc_reader::{ReadFault, read_abc};
-use abc_format::Abc;
+use abc_format::{Abc, AbcRefusal, read_abc};
 use avm2_machine::Machine;
 use flex_base::{Bytes, Outcome, Text, TraceItem, UserEvent, line_of};
 use flex_edge::{Refused, Sink, print};
@@ -36,8 +34,8 @@ pub fn play<O: Sink>(
     };
     match read_abc(alloc, file.abc.as_slice()) {
         Ok(abc) => play_program(alloc, &abc, &file.main, script, turns, out),
-        Err(ReadFault::Bad) => unreachable!(),
-        Err(ReadFault::NoMemory) => Err(Refused::NoMemory),
+        Err(AbcRefusal::BadAbc(_, _)) => unreachable!(),
+        Err(AbcRefusal::NoMemory) => Err(Refused::NoMemory),
     }
 }
 
@@ -50,7 +48,7 @@ fn play_program<O: Sink>(
     turns: u32,
     out: &mut O,
 ) -> Result<Outcome, Refused>
-    ensures { PrintsText (ComesTo abc.now main.now script.now (boot abc.now turns)) (O.state out.old) result (O.state out.new) }
+    ensures { PlaysProgram abc.now main.now script.now turns (O.state out.old) result (O.state out.new) }
 {
     let mut machine = Machine::load(alloc, abc.classes.len(), turns)?;
     let outcome = play_script(alloc, abc, main, script, &mut machine, out)?;
@@ -88,7 +86,7 @@ fn run<O: Sink>(
     machine: &mut Machine,
     out: &mut O,
 ) -> Result<(), Refused>
-    ensures printed { Runs abc.now main.now machine.old (O.state out.old) result machine.new (O.state out.new) }
+    ensures runs { Runs abc.now main.now machine.old (O.state out.old) result machine.new (O.state out.new) }
     ensures rests { OnOk result (result_of machine.new ≢ None) }
 {
     while machine.result().is_none() {
@@ -106,8 +104,8 @@ fn advance<O: Sink>(
     out: &mut O,
 ) -> Result<(), Refused>
     ensures moved { OnOk result (machine.new ≡ (step abc.now main.now machine.old).machine) }
-    ensures lowers { OnOk result (result_of machine.old ≡ None → remaining abc.now machine.new < remaining abc.now machine.old) }
-    ensures printed { Prints (O.state out.old) (item_lines (step abc.now main.now machine.old).item) result (O.state out.new) }
+    ensures lowers { OnOk result (ComesNearer abc.now machine.old machine.new) }
+    ensures printed { PrintsStep abc.now main.now machine.old (O.state out.old) result (O.state out.new) }
 {
     match machine.step(alloc, abc, main)? {
         None => Ok(()),

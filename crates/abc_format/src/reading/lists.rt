@@ -1,10 +1,10 @@
 // Lists of records.
 
-ghost use Rattle.abc_format.specs.Fields.{Answers, counted, read_index, table, times};
+ghost use Rattle.abc_format.specs.Fields.{Answers, counted, table, times};
 
 use crate::reading::unread::Unread;
 use crate::reason::AbcRefusal;
-use crate::tables::{IndexRule, Tables};
+use crate::tables::Tables;
 use flex_base::Sequence;
 use std::alloc::Global;
 
@@ -59,33 +59,4 @@ pub fn read_table<T: Readable + Drop>(
 {
     let count = unread.number()?;
     read_times(alloc, unread, tables, count.saturating_sub(1))
-}
-
-// So many numbers that name entries.
-#[tactic(auto, using(crate::proofs::Lists::times_read))]
-pub fn read_indexes(
-    alloc: Global,
-    unread: &mut Unread<'_>,
-    rule: IndexRule,
-    count: u32,
-) -> Result<Sequence<u32>, AbcRefusal>
-    ensures { Answers (times (read_index rule) count unread.old) result unread.new }
-{
-    let mut items = Sequence::new(alloc);
-    for _index in 0..count {
-        items.push(unread.index(rule)?)?;
-    }
-    Ok(items)
-}
-
-// A count, and as many numbers that name entries.
-pub fn read_counted_indexes(
-    alloc: Global,
-    unread: &mut Unread<'_>,
-    rule: IndexRule,
-) -> Result<Sequence<u32>, AbcRefusal>
-    ensures { Answers (counted (read_index rule) unread.old) result unread.new }
-{
-    let count = unread.number()?;
-    read_indexes(alloc, unread, rule, count)
 }

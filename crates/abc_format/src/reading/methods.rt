@@ -3,7 +3,8 @@
 ghost use Rattle.abc_format.specs.Fields.{Answers};
 ghost use Rattle.abc_format.specs.Reading.{read_body, read_code, read_exception, read_item, read_metadata, read_method, read_option, read_options, read_param_names};
 
-use crate::reading::lists::{Readable, read_counted, read_indexes};
+use crate::index::{MethodIndex, MultinameIndex, StringIndex};
+use crate::reading::lists::{Readable, read_counted, read_times};
 use crate::reading::unread::Unread;
 use crate::reason::AbcRefusal;
 use crate::records::{ExceptionInfo, ItemInfo, MetadataInfo, MethodBody, MethodInfo, OptionDetail};
@@ -21,9 +22,9 @@ impl Readable for MethodInfo {
         tables: &Tables,
     ) -> Result<MethodInfo, AbcRefusal> {
         let param_count = unread.number()?;
-        let return_type = unread.index(tables.name())?;
-        let param_types = read_indexes(alloc, unread, tables.name(), param_count)?;
-        let name = unread.index(tables.string())?;
+        let return_type = MultinameIndex::read(alloc, unread, tables)?;
+        let param_types = read_times(alloc, unread, tables, param_count)?;
+        let name = StringIndex::read(alloc, unread, tables)?;
         let flags = unread.byte()?;
         Ok(MethodInfo {
             return_type,
@@ -56,13 +57,13 @@ fn read_param_names(
     tables: &Tables,
     flags: u8,
     count: u32,
-) -> Result<Sequence<u32>, AbcRefusal>
+) -> Result<Sequence<StringIndex>, AbcRefusal>
     ensures { Answers (read_param_names tables.now flags count unread.old) result unread.new }
 {
     if flags & MethodInfo::HAS_PARAM_NAMES == 0 {
         return Ok(Sequence::new(alloc));
     }
-    read_indexes(alloc, unread, tables.string(), count)
+    read_times(alloc, unread, tables, count)
 }
 
 impl Readable for OptionDetail {
@@ -91,7 +92,7 @@ impl Readable for MetadataInfo {
         tables: &Tables,
     ) -> Result<MetadataInfo, AbcRefusal> {
         Ok(MetadataInfo {
-            name: unread.index(tables.string())?,
+            name: StringIndex::read(alloc, unread, tables)?,
             items: read_counted(alloc, unread, tables)?,
         })
     }
@@ -107,8 +108,8 @@ impl Readable for ItemInfo {
         _tables: &Tables,
     ) -> Result<ItemInfo, AbcRefusal> {
         Ok(ItemInfo {
-            key: unread.number()?,
-            value: unread.number()?,
+            key: StringIndex::new(unread.number()?),
+            value: StringIndex::new(unread.number()?),
         })
     }
 }
@@ -123,7 +124,7 @@ impl Readable for MethodBody {
         tables: &Tables,
     ) -> Result<MethodBody, AbcRefusal> {
         Ok(MethodBody {
-            method: unread.index(tables.method())?,
+            method: MethodIndex::read(alloc, unread, tables)?,
             max_stack: unread.number()?,
             local_count: unread.number()?,
             init_scope_depth: unread.number()?,
@@ -158,8 +159,8 @@ impl Readable for ExceptionInfo {
             from: unread.number()?,
             to: unread.number()?,
             target: unread.number()?,
-            exc_type: unread.number()?,
-            var_name: unread.number()?,
+            exc_type: MultinameIndex::new(unread.number()?),
+            var_name: MultinameIndex::new(unread.number()?),
         })
     }
 }

@@ -3,7 +3,8 @@
 ghost use Rattle.abc_format.specs.Fields.{Answers, read_double, read_int, read_string, read_text, read_u32};
 ghost use Rattle.abc_format.specs.Reading.{read_multiname, read_name_parts, read_namespace, read_namespace_kind, read_pool, read_set};
 
-use crate::reading::lists::{Readable, read_counted_indexes, read_table};
+use crate::index::{NamespaceIndex, NamespaceSetIndex, StringIndex};
+use crate::reading::lists::{Readable, read_counted, read_table};
 use crate::reading::unread::Unread;
 use crate::reason::{AbcReason, AbcRefusal};
 use crate::records::{ConstantPool, Multiname, Namespace, NamespaceKind};
@@ -94,13 +95,13 @@ impl Readable for Namespace {
 
     #[tactic(auto, unfolding(crate::specs::Reading::read_namespace))]
     fn read(
-        _alloc: Global,
+        alloc: Global,
         unread: &mut Unread<'_>,
         tables: &Tables,
     ) -> Result<Namespace, AbcRefusal> {
         Ok(Namespace {
             kind: read_namespace_kind(unread)?,
-            name: unread.index(tables.string())?,
+            name: StringIndex::read(alloc, unread, tables)?,
         })
     }
 }
@@ -117,7 +118,7 @@ fn read_namespace_kind(unread: &mut Unread<'_>) -> Result<NamespaceKind, AbcRefu
 }
 
 // A set of namespaces.
-impl Readable for Sequence<u32> {
+impl Readable for Sequence<NamespaceIndex> {
     ghost reading = { read_set };
 
     #[tactic(auto, unfolding(crate::specs::Reading::read_set))]
@@ -125,8 +126,8 @@ impl Readable for Sequence<u32> {
         alloc: Global,
         unread: &mut Unread<'_>,
         tables: &Tables,
-    ) -> Result<Sequence<u32>, AbcRefusal> {
-        read_counted_indexes(alloc, unread, tables.namespace())
+    ) -> Result<Sequence<NamespaceIndex>, AbcRefusal> {
+        read_counted(alloc, unread, tables)
     }
 }
 
@@ -135,19 +136,20 @@ impl Readable for Multiname {
 
     #[tactic(auto, unfolding(crate::specs::Reading::read_multiname))]
     fn read(
-        _alloc: Global,
+        alloc: Global,
         unread: &mut Unread<'_>,
         tables: &Tables,
     ) -> Result<Multiname, AbcRefusal> {
         let place = unread.place();
         let kind = unread.byte()?;
-        read_name_parts(unread, tables, kind, place)
+        read_name_parts(alloc, unread, tables, kind, place)
     }
 }
 
 // What a kind with this byte, which stands at the place, has of its own.
 #[tactic(auto, unfolding(crate::specs::Reading::read_name_parts))]
 fn read_name_parts(
+    alloc: Global,
     unread: &mut Unread<'_>,
     tables: &Tables,
     kind: u8,
@@ -156,35 +158,35 @@ fn read_name_parts(
     ensures { Answers (read_name_parts tables.now place kind unread.old) result unread.new }
 {
     match kind {
-        0x07 => Ok(Multiname::QName {
-            namespace: unread.index(tables.namespace())?,
-            name: unread.index(tables.string())?,
+        Multiname::QNAME => Ok(Multiname::QName {
+            namespace: NamespaceIndex::read(alloc, unread, tables)?,
+            name: StringIndex::read(alloc, unread, tables)?,
         }),
-        0x0D => Ok(Multiname::QNameA {
-            namespace: unread.index(tables.namespace())?,
-            name: unread.index(tables.string())?,
+        Multiname::QNAME_A => Ok(Multiname::QNameA {
+            namespace: NamespaceIndex::read(alloc, unread, tables)?,
+            name: StringIndex::read(alloc, unread, tables)?,
         }),
-        0x0F => Ok(Multiname::RtqName {
-            name: unread.index(tables.string())?,
+        Multiname::RTQ_NAME => Ok(Multiname::RtqName {
+            name: StringIndex::read(alloc, unread, tables)?,
         }),
-        0x10 => Ok(Multiname::RtqNameA {
-            name: unread.index(tables.string())?,
+        Multiname::RTQ_NAME_A => Ok(Multiname::RtqNameA {
+            name: StringIndex::read(alloc, unread, tables)?,
         }),
-        0x11 => Ok(Multiname::RtqNameL),
-        0x12 => Ok(Multiname::RtqNameLA),
-        0x09 => Ok(Multiname::Multiname {
-            name: unread.index(tables.string())?,
-            namespace_set: unread.index(tables.namespace_set())?,
+        Multiname::RTQ_NAME_L => Ok(Multiname::RtqNameL),
+        Multiname::RTQ_NAME_LA => Ok(Multiname::RtqNameLA),
+        Multiname::MULTINAME => Ok(Multiname::Multiname {
+            name: StringIndex::read(alloc, unread, tables)?,
+            namespace_set: NamespaceSetIndex::read(alloc, unread, tables)?,
         }),
-        0x0E => Ok(Multiname::MultinameA {
-            name: unread.index(tables.string())?,
-            namespace_set: unread.index(tables.namespace_set())?,
+        Multiname::MULTINAME_A => Ok(Multiname::MultinameA {
+            name: StringIndex::read(alloc, unread, tables)?,
+            namespace_set: NamespaceSetIndex::read(alloc, unread, tables)?,
         }),
-        0x1B => Ok(Multiname::MultinameL {
-            namespace_set: unread.index(tables.namespace_set())?,
+        Multiname::MULTINAME_L => Ok(Multiname::MultinameL {
+            namespace_set: NamespaceSetIndex::read(alloc, unread, tables)?,
         }),
-        0x1C => Ok(Multiname::MultinameLA {
-            namespace_set: unread.index(tables.namespace_set())?,
+        Multiname::MULTINAME_LA => Ok(Multiname::MultinameLA {
+            namespace_set: NamespaceSetIndex::read(alloc, unread, tables)?,
         }),
         _ => Err(AbcRefusal::BadAbc(place, AbcReason::Kind)),
     }

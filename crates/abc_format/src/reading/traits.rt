@@ -3,7 +3,9 @@
 ghost use Rattle.abc_format.specs.Fields.{Answers};
 ghost use Rattle.abc_format.specs.Reading.{read_class, read_instance, read_protected_namespace, read_script, read_trait, read_trait_metadata, read_trait_parts, read_value_kind, read_variable};
 
-use crate::reading::lists::{Readable, read_counted, read_counted_indexes};
+use crate::index::{ClassIndex, MetadataIndex, MethodIndex, MultinameIndex, NamespaceIndex};
+use crate::reading::indexes::read_interfaces;
+use crate::reading::lists::{Readable, read_counted};
 use crate::reading::unread::Unread;
 use crate::reason::{AbcReason, AbcRefusal};
 use crate::records::{ClassInfo, InstanceInfo, ScriptInfo, Trait, TraitKind};
@@ -20,32 +22,33 @@ impl Readable for InstanceInfo {
         unread: &mut Unread<'_>,
         tables: &Tables,
     ) -> Result<InstanceInfo, AbcRefusal> {
-        let name = unread.index(tables.name())?;
-        let super_name = unread.index(tables.name())?;
+        let name = MultinameIndex::read(alloc, unread, tables)?;
+        let super_name = MultinameIndex::read(alloc, unread, tables)?;
         let flags = unread.byte()?;
         Ok(InstanceInfo {
             name,
             super_name,
             flags,
-            protected_namespace: read_protected_namespace(unread, tables, flags)?,
-            interfaces: read_counted_indexes(alloc, unread, tables.interface())?,
-            iinit: unread.index(tables.method())?,
+            protected_namespace: read_protected_namespace(alloc, unread, tables, flags)?,
+            interfaces: read_interfaces(alloc, unread, tables)?,
+            iinit: MethodIndex::read(alloc, unread, tables)?,
             traits: read_counted(alloc, unread, tables)?,
         })
     }
 }
 
 fn read_protected_namespace(
+    alloc: Global,
     unread: &mut Unread<'_>,
     tables: &Tables,
     flags: u8,
-) -> Result<u32, AbcRefusal>
+) -> Result<NamespaceIndex, AbcRefusal>
     ensures { Answers (read_protected_namespace tables.now flags unread.old) result unread.new }
 {
     if flags & InstanceInfo::PROTECTED_NS == 0 {
-        return Ok(0);
+        return Ok(NamespaceIndex::new(0));
     }
-    unread.index(tables.namespace())
+    NamespaceIndex::read(alloc, unread, tables)
 }
 
 impl Readable for ClassInfo {
@@ -58,7 +61,7 @@ impl Readable for ClassInfo {
         tables: &Tables,
     ) -> Result<ClassInfo, AbcRefusal> {
         Ok(ClassInfo {
-            cinit: unread.index(tables.method())?,
+            cinit: MethodIndex::read(alloc, unread, tables)?,
             traits: read_counted(alloc, unread, tables)?,
         })
     }
@@ -74,7 +77,7 @@ impl Readable for ScriptInfo {
         tables: &Tables,
     ) -> Result<ScriptInfo, AbcRefusal> {
         Ok(ScriptInfo {
-            init: unread.index(tables.method())?,
+            init: MethodIndex::read(alloc, unread, tables)?,
             traits: read_counted(alloc, unread, tables)?,
         })
     }
@@ -85,13 +88,13 @@ impl Readable for Trait {
 
     #[tactic(auto, unfolding(crate::specs::Reading::read_trait))]
     fn read(alloc: Global, unread: &mut Unread<'_>, tables: &Tables) -> Result<Trait, AbcRefusal> {
-        let name = unread.index(tables.name())?;
+        let name = MultinameIndex::read(alloc, unread, tables)?;
         let place = unread.place();
         let byte = unread.byte()?;
         let attributes = byte / 16;
         Ok(Trait {
             name,
-            kind: read_trait_parts(unread, tables, byte % 16, place)?,
+            kind: read_trait_parts(alloc, unread, tables, byte % 16, place)?,
             attributes,
             metadata: read_trait_metadata(alloc, unread, tables, attributes)?,
         })
@@ -101,6 +104,7 @@ impl Readable for Trait {
 // What a kind with this code, whose byte stands at the place, has of its own.
 #[tactic(auto, unfolding(crate::specs::Reading::read_trait_parts))]
 fn read_trait_parts(
+    alloc: Global,
     unread: &mut Unread<'_>,
     tables: &Tables,
     code: u8,
@@ -109,13 +113,13 @@ fn read_trait_parts(
     ensures { Answers (read_trait_parts tables.now place code unread.old) result unread.new }
 {
     match code {
-        0 => {
+        TraitKind::SLOT => {
             let Variable {
                 slot_id,
                 type_name,
                 vindex,
                 vkind,
-            } = read_variable(unread, tables)?;
+            } = read_variable(alloc, unread, tables)?;
             Ok(TraitKind::Slot {
                 slot_id,
                 type_name,
@@ -123,33 +127,33 @@ fn read_trait_parts(
                 vkind,
             })
         }
-        1 => Ok(TraitKind::Method {
+        TraitKind::METHOD => Ok(TraitKind::Method {
             disp_id: unread.number()?,
-            method: unread.index(tables.method())?,
+            method: MethodIndex::read(alloc, unread, tables)?,
         }),
-        2 => Ok(TraitKind::Getter {
+        TraitKind::GETTER => Ok(TraitKind::Getter {
             disp_id: unread.number()?,
-            method: unread.index(tables.method())?,
+            method: MethodIndex::read(alloc, unread, tables)?,
         }),
-        3 => Ok(TraitKind::Setter {
+        TraitKind::SETTER => Ok(TraitKind::Setter {
             disp_id: unread.number()?,
-            method: unread.index(tables.method())?,
+            method: MethodIndex::read(alloc, unread, tables)?,
         }),
-        4 => Ok(TraitKind::Class {
+        TraitKind::CLASS => Ok(TraitKind::Class {
             slot_id: unread.number()?,
-            class: unread.index(tables.class())?,
+            class: ClassIndex::read(alloc, unread, tables)?,
         }),
-        5 => Ok(TraitKind::Function {
+        TraitKind::FUNCTION => Ok(TraitKind::Function {
             slot_id: unread.number()?,
-            function: unread.index(tables.method())?,
+            function: MethodIndex::read(alloc, unread, tables)?,
         }),
-        6 => {
+        TraitKind::CONST => {
             let Variable {
                 slot_id,
                 type_name,
                 vindex,
                 vkind,
-            } = read_variable(unread, tables)?;
+            } = read_variable(alloc, unread, tables)?;
             Ok(TraitKind::Const {
                 slot_id,
                 type_name,
@@ -165,17 +169,21 @@ fn read_trait_parts(
 #[derive(Clone, Copy)]
 pub struct Variable {
     pub slot_id: u32,
-    pub type_name: u32,
+    pub type_name: MultinameIndex,
     pub vindex: u32,
     pub vkind: u8,
 }
 
 #[tactic(auto, unfolding(crate::specs::Reading::read_variable))]
-fn read_variable(unread: &mut Unread<'_>, tables: &Tables) -> Result<Variable, AbcRefusal>
+fn read_variable(
+    alloc: Global,
+    unread: &mut Unread<'_>,
+    tables: &Tables,
+) -> Result<Variable, AbcRefusal>
     ensures { Answers (read_variable tables.now unread.old) result unread.new }
 {
     let slot_id = unread.number()?;
-    let type_name = unread.index(tables.name())?;
+    let type_name = MultinameIndex::read(alloc, unread, tables)?;
     let vindex = unread.number()?;
     Ok(Variable {
         slot_id,
@@ -201,11 +209,11 @@ fn read_trait_metadata(
     unread: &mut Unread<'_>,
     tables: &Tables,
     attributes: u8,
-) -> Result<Sequence<u32>, AbcRefusal>
+) -> Result<Sequence<MetadataIndex>, AbcRefusal>
     ensures { Answers (read_trait_metadata tables.now attributes unread.old) result unread.new }
 {
     if attributes & Trait::METADATA == 0 {
         return Ok(Sequence::new(alloc));
     }
-    read_counted_indexes(alloc, unread, tables.metadata())
+    read_counted(alloc, unread, tables)
 }

@@ -1,8 +1,0 @@
-use Rattle.std.proofs.Common.{◌≡◌, ◌-◌}
-use Rattle.abc_format.proofs.Lists.{after}
-use Rattle.abc_format.specs.Fields.{times, read_index}
-use Rattle.abc_format.proofs.reading.lists.read_indexes.Given as goal
-
-abbrev pub invariant-loop-index : goal.invariant-loop-index
-invariant-loop-index l =
-    after l.items (times (read_index l.rule) (l.fn.count - l._index) l.unread) ≡ times (read_index l.rule) l.fn.count l.fn.unread

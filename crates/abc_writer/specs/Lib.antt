@@ -1,0 +1,4 @@
+pub mod Spelling
+pub mod WritingLaws
+pub mod Interning
+pub mod PoolLaws
