@@ -21,5 +21,5 @@ pub use event::{EventRow, event_of};
 pub use laws::laws_of_the_catalog;
 pub use method::{MethodRow, NativeMethod, Parameter, method_of};
 pub use naming::{class_in, class_of};
-pub use property::{PropertyRow, property_of};
+pub use property::{PropertyRow, property_names, property_of};
 pub use value::{StartValue, ValueType};

@@ -1,7 +1,7 @@
 // The properties of the native classes.
 
-ghost use Rattle.std.specs.Prelude.{◌≡◌};
-ghost use Rattle.component_catalog.specs.Properties.{bound, fixed, own_property, property_of};
+ghost use Rattle.std.specs.Prelude.{◌≡◌, map};
+ghost use Rattle.component_catalog.specs.Properties.{Property, bound, fixed, own_property, properties, property_of};
 
 use crate::class::NativeClass;
 use crate::value::{StartValue, ValueType};
@@ -113,6 +113,46 @@ fn event_property(name: &str) -> Option<PropertyRow>
         "eventPhase" => Some(fixed(ValueType::Int, StartValue::Int(0))),
         "bubbles" | "cancelable" => Some(fixed(ValueType::Boolean, StartValue::Bool(false))),
         _ => None,
+    }
+}
+
+/// The names of the properties that a class has beside those of its base, in the order of the
+/// table.
+pub fn property_names(class: NativeClass) -> &'static [&'static str]
+    ensures { map (λ name. name.now) result.now ≡ map (λ (p : Property). p.name) (properties class) }
+{
+    match class {
+        NativeClass::UIComponent => &[
+            "visible",
+            "enabled",
+            "x",
+            "y",
+            "width",
+            "height",
+            "percentWidth",
+            "percentHeight",
+            "minWidth",
+            "minHeight",
+            "currentState",
+            "parent",
+        ],
+        NativeClass::SkinnableContainer | NativeClass::Group => &["numElements"],
+        NativeClass::VGroup | NativeClass::HGroup => &["gap"],
+        NativeClass::Panel => &["title"],
+        NativeClass::Label => &["text"],
+        NativeClass::Button => &["label"],
+        NativeClass::ToggleButton | NativeClass::CheckBox => &["label", "selected"],
+        NativeClass::TextInput => &["text", "editable"],
+        NativeClass::State => &["name", "stateGroups"],
+        NativeClass::Event => &[
+            "type",
+            "target",
+            "currentTarget",
+            "eventPhase",
+            "bubbles",
+            "cancelable",
+        ],
+        _ => &[],
     }
 }
 

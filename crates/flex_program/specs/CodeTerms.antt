@@ -1,7 +1,7 @@
 -- The terms that declared expressions, statements and methods stand for.
 use Rattle.std.specs.List.{fold}
 use Rattle.std.specs.Prelude.{List, [], map, option_map, ◌∷◌}
-use Rattle.flex_world.specs.Classes.{Class, StaticType}
+pub use Rattle.flex_world.specs.Kinds.{class_of, type_of}
 use Rattle.flex_world.specs.Operators.{Operator}
 use Rattle.flex_program.specs.declared.code as code
 use Rattle.flex_program.specs.declared.code.Literal.TheVariants as literal
@@ -9,25 +9,11 @@ use Rattle.flex_program.specs.declared.code.Place.TheVariants as place
 use Rattle.flex_program.specs.declared.code.Start.TheVariants as start
 use Rattle.flex_program.specs.declared.code.Step.TheVariants as step
 use Rattle.flex_program.specs.declared.code.Stmt.TheVariants as stmt
-use Rattle.flex_program.specs.declared.kind as kind
-use Rattle.flex_program.specs.declared.kind.Class.TheVariants as class
-use Rattle.flex_program.specs.declared.kind.Operator.TheVariants as operator
-use Rattle.flex_program.specs.declared.kind.StaticType.TheVariants as type
+use Rattle.flex_program.specs.declared.operator as operators
+use Rattle.flex_program.specs.declared.operator.Operator.TheVariants as operator
 use Rattle.flex_program.specs.Program.{Block, Expr, Exprs, Literal, Method, Place, Stmt}
 
-abbrev pub class_of : kind.Class.Class → Class
-class_of (class.Native c) = Class.Native c
-class_of (class.Source k) = Class.File k
-
-abbrev pub type_of : kind.StaticType.StaticType → StaticType
-type_of type.Int = StaticType.Int
-type_of type.Boolean = StaticType.Boolean
-type_of type.String = StaticType.String
-type_of type.Array = StaticType.Array
-type_of (type.Object c) = StaticType.Object (class_of c)
-type_of type.Any = StaticType.Any
-
-abbrev pub operator_of : kind.Operator.Operator → Operator
+abbrev pub operator_of : operators.Operator.Operator → Operator
 operator_of operator.Plus = Operator.Plus
 operator_of operator.Minus = Operator.Minus
 operator_of operator.Times = Operator.Times

@@ -11,25 +11,26 @@ use Rattle.flex_program.specs.declared.code.Stmt.TheVariants as stmt
 use Rattle.flex_program.specs.declared.document as document
 use Rattle.flex_program.specs.declared.document.Content.TheVariants as content
 use Rattle.flex_program.specs.declared.document.Given.TheVariants as given
-use Rattle.flex_program.specs.declared.kind as kind
+use Rattle.flex_program.specs.declared.operator as operators
+use Rattle.flex_world.specs.declared.kind as types
 
 -- what an expression begins with
 pub record StartForms : Type 0 where
   pub array : (items : Vec code.Expr.Expr) → start_of (start.Array items) ≡ Expr.Items (exprs_of items.items)
   pub call_super :
-      (base : kind.Class.Class) (name : Text) (arguments : Vec code.Expr.Expr)
+      (base : types.Class.Class) (name : Text) (arguments : Vec code.Expr.Expr)
       → start_of (start.CallSuper base name arguments) ≡ Expr.Call_super (class_of base) name (exprs_of arguments.items)
-  pub new : (class : kind.Class.Class) (arguments : Vec code.Expr.Expr) → start_of (start.New class arguments) ≡ Expr.New (class_of class) (exprs_of arguments.items)
+  pub new : (class : types.Class.Class) (arguments : Vec code.Expr.Expr) → start_of (start.New class arguments) ≡ Expr.New (class_of class) (exprs_of arguments.items)
 
 -- the steps from there
 pub record StepForms (e : Expr) : Type 0 where
   pub element : (index : code.Expr.Expr) → step_from e (step.Element index) ≡ Expr.Element e (expr_of index)
   pub call : (name : Text) (arguments : Vec code.Expr.Expr) → step_from e (step.Call name arguments) ≡ Expr.Call e name (exprs_of arguments.items)
   pub push : (value : code.Expr.Expr) → step_from e (step.Push value) ≡ Expr.Push e (expr_of value)
-  pub apply : (operator : kind.Operator.Operator) (right : code.Expr.Expr) → step_from e (step.Apply operator right) ≡ Expr.Apply (operator_of operator) e (expr_of right)
+  pub apply : (operator : operators.Operator.Operator) (right : code.Expr.Expr) → step_from e (step.Apply operator right) ≡ Expr.Apply (operator_of operator) e (expr_of right)
   pub and : (right : code.Expr.Expr) → step_from e (step.And right) ≡ Expr.And e (expr_of right)
   pub or : (right : code.Expr.Expr) → step_from e (step.Or right) ≡ Expr.Or e (expr_of right)
-  pub choose : (a b : code.Expr.Expr) (type : kind.StaticType.StaticType) → step_from e (step.Choose a b type) ≡ Expr.Choose e (expr_of a) (expr_of b) (type_of type)
+  pub choose : (a b : code.Expr.Expr) (type : types.StaticType.StaticType) → step_from e (step.Choose a b type) ≡ Expr.Choose e (expr_of a) (expr_of b) (type_of type)
 
 pub record StmtForms : Type 0 where
   pub branch :

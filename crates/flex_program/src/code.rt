@@ -4,8 +4,9 @@ ghost use Rattle.std.specs.List.{fold};
 ghost use Rattle.std.specs.Prelude.{◌≡◌, map, option_map};
 ghost use Rattle.flex_program.specs.CodeTerms.{block_of, expr_of, method_of, start_of, step_from, type_of};
 
-use crate::kind::{Class, Operator, StaticType};
+use crate::operator::Operator;
 use flex_base::Text;
+use flex_world::{Class, StaticType};
 
 /// A value that is written in a source.
 #[derive(Drop)]

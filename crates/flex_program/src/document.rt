@@ -4,8 +4,8 @@ ghost use Rattle.std.specs.Prelude.{◌≡◌, map};
 ghost use Rattle.flex_program.specs.DocumentTerms.{HasContents, HasPart, binding_of, chain_of, destination_of, document_of, instance_of, override_of, source_of, state_of};
 
 use crate::code::{Expr, Literal};
-use crate::kind::Class;
 use flex_base::{Chain, Names, Text};
+use flex_world::Class;
 
 /// What an attribute does.
 #[derive(Drop)]

@@ -9,8 +9,8 @@
 
 mod code;
 mod document;
-mod kind;
 mod laws;
+mod operator;
 mod program;
 #[cfg(test)]
 mod tests;
@@ -20,6 +20,7 @@ pub use document::{
     Attribute, Binding, BindingSource, Change, Content, Destination, Document, Given, Instance,
     Override, Part, Presence, State, WatchedChain,
 };
-pub use kind::{Class, Operator, StaticType};
+pub use flex_world::{Class, StaticType};
+pub use operator::Operator;
 pub use laws::{laws_of_classes, laws_of_terms};
 pub use program::{Constructor, Member, Program, SourceClass, Variable};

@@ -7,8 +7,8 @@ ghost use Rattle.flex_program.specs.ProgramTerms.{HasDocument, constructor_of, m
 
 use crate::code::{Expr, Method};
 use crate::document::Document;
-use crate::kind::{Class, StaticType};
 use flex_base::Text;
+use flex_world::{Class, StaticType};
 
 /// A variable or an id of a class.
 #[derive(Drop)]

@@ -1,4 +1,5 @@
 pub mod Classes
+pub mod Kinds
 pub mod Objects
 pub mod Making
 pub mod Events

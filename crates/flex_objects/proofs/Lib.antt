@@ -1,0 +1,4 @@
+pub mod Positions
+pub mod Tables
+pub mod Fields
+pub mod NativeSlots

@@ -1,0 +1,38 @@
+-- What the calls of a stage answer, and what they leave. After want of memory it holds nothing, and wants memory at each later call.
+use Rattle.std.specs.Prelude.{Err, None, Ok, Option, Result, Some, ⊤, ◌≡◌}
+use Rattle.flex_base.specs.declared.outcome.RunRefusal.{RunRefusal}
+use Rattle.flex_base.specs.declared.outcome.RunRefusal.TheVariants as refusal
+use Rattle.flex_base.specs.declared.outcome.Stop.{Stop}
+use Rattle.ui_runtime.specs.Stage.{Stage}
+
+-- what a call does to a stage that has memory
+abbrev pub Steps : {A : Type 0} → Stage → Result (A × Stage) Stop → Result A RunRefusal → Stage → Type 0
+Steps s done (Ok v) after = done ≡ Ok (v, after)
+Steps s done (Err (refusal.Stop cause)) after = (done ≡ Err cause) × (after ≡ s)
+Steps s done (Err refusal.NoMemory) after = ⊤
+
+-- the same, where it gives nothing
+abbrev pub Comes : Stage → Result Stage Stop → Result (Unit {0}) RunRefusal → Stage → Type 0
+Comes s done (Ok _) after = done ≡ Ok after
+Comes s done (Err (refusal.Stop cause)) after = (done ≡ Err cause) × (after ≡ s)
+Comes s done (Err refusal.NoMemory) after = ⊤
+
+-- and to any stage
+abbrev pub Does : {A : Type 0} → Option Stage → (Stage → Result (A × Stage) Stop) → Result A RunRefusal → Option Stage → Type 0
+Does before f (Err refusal.NoMemory) after = after ≡ None
+Does (Some s) f answer (Some after) = Steps s (f s) answer after
+Does _ f answer after = ⊥
+
+-- what a call that takes no memory does to a stage, unless it stops
+abbrev pub Pays : Stage → Result Stage Stop → Result (Unit {0}) Stop → Stage → Type 0
+Pays s paid (Ok _) after = paid ≡ Ok after
+Pays s paid (Err cause) after = (paid ≡ Err cause) × (after ≡ s)
+
+-- what is asked of a stage; after want of memory nothing is there
+abbrev pub asked : {A : Type 0} → A → (Stage → A) → Option Stage → A
+asked nothing f None = nothing
+asked nothing f (Some s) = f s
+
+abbrev pub kept_unless_refused : {A : Type 0} → Result A RunRefusal → Stage → Option Stage
+kept_unless_refused (Err refusal.NoMemory) s = None
+kept_unless_refused _ s = Some s

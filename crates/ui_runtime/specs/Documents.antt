@@ -1,0 +1,87 @@
+-- What documents keep of their bindings and states.
+use Rattle.std.specs.List.{fold}
+use Rattle.std.specs.Option.{option_map_or}
+use Rattle.std.specs.Prelude.{Bool, Err, List, None, Ok, Option, Result, Some, [], false, if◌then◌else◌, not, option_and_then, slice_get, ℕ, ◌++◌, ◌||◌, ◌∷◌}
+use Rattle.flex_base.specs.Value.{same}
+use Rattle.flex_base.specs.declared.outcome.Stop.{Stop}
+use Rattle.flex_base.specs.declared.outcome.Stop.TheVariants as stop
+use Rattle.flex_base.specs.declared.value.ObjId.{ObjId}
+use Rattle.flex_base.specs.declared.value.Value.{Value}
+use Rattle.flex_base.specs.declared.value.Value.TheVariants as value
+use Rattle.flex_world.specs.Making.{keeps_nothing}
+use Rattle.flex_world.specs.Objects.{Keeping, Object, current_state, is_number_among, property}
+use Rattle.flex_objects.specs.Entities.{Inside, begun, ended, is_among, with_enabled, with_kept, with_open, without_open}
+use Rattle.watch_table.specs.Affected.{with_chain}
+use Rattle.ui_runtime.specs.Stage.{Stage, change, change_inside, inside_at, object_at}
+
+abbrev pub keeping_at : ObjId → Stage → Keeping
+keeping_at d s = option_map_or (λ (c : Object). c.keeping) (object_at d s) keeps_nothing
+
+abbrev pub keeps : (Keeping → Keeping) → ObjId → Stage → Stage
+keeps f d s = change d (λ c. record c { keeping = f c.keeping }) s
+
+-- a binding is enabled, and its chains are watched
+abbrev pub binds : ObjId → ℕ → List (List (List ℕ)) → Stage → Stage
+binds d n chains s = keeps (with_enabled n) d (record s { watched = fold (λ ws chain. with_chain d n chain ws) s.watched chains })
+
+abbrev pub is_enabled : ObjId → ℕ → Stage → Bool
+is_enabled d n s = is_number_among n (keeping_at d s).enabled
+
+-- a run of a binding is open
+abbrev pub is_open : ObjId → ℕ → Stage → Bool
+is_open d n s = is_number_among n (keeping_at d s).open_bindings
+
+abbrev pub opens : ObjId → ℕ → Stage → Stage
+opens d n s = keeps (with_open n) d s
+
+abbrev pub closes : ObjId → ℕ → Stage → Stage
+closes d n s = keeps (without_open n) d s
+
+abbrev pub states_at : ObjId → Stage → List (List ℕ)
+states_at d s = option_map_or (λ (i : Inside). i.states) (inside_at d s) []
+
+abbrev pub adds_state : ObjId → List ℕ → Stage → Stage
+adds_state d name s = change_inside d (λ i. record i { states = i.states ++ name ∷ [] }) s
+
+abbrev pub has_state : ObjId → List ℕ → Stage → Bool
+has_state d name s = is_among name (states_at d s)
+
+abbrev pub is_text : List ℕ → Option Value → Bool
+is_text text None = false
+is_text text (Some v) = same v (value.Text text)
+
+abbrev pub is_current : ObjId → List ℕ → Stage → Bool
+is_current d name s = is_text name (option_and_then (λ c. property c current_state) (object_at d s))
+
+-- what a request for a state comes to
+pub data Change : Type 0 where
+  Nothing : Change
+  -- while a change runs, or the first state isn't entered
+  Kept : Change
+  Begin : Change
+
+abbrev pub waits : Keeping → Bool
+waits k = k.running || not k.entered
+
+-- a state is asked for, by its name
+abbrev pub requests : ObjId → List ℕ → Stage → Result (Change × Stage) Stop
+requests d name s =
+    if not (has_state d name s) then Err stop.UnknownState
+    else if waits (keeping_at d s) then Ok (Kept, keeps (with_kept name) d s)
+    else if is_current d name s then Ok (Nothing, s)
+    else Ok (Begin, keeps begun d s)
+
+-- the first state, if there is one, which a change begins to enter
+abbrev pub first_state : ObjId → Stage → Option (List ℕ)
+first_state d s = slice_get (states_at d s) 0
+
+abbrev pub begins : Option (List ℕ) → ObjId → Stage → Stage
+begins None d s = s
+begins (Some name) d s = keeps begun d s
+
+-- a change is over: the name that was kept is given
+abbrev pub kept_name : ObjId → Stage → Option (List ℕ)
+kept_name d s = (keeping_at d s).kept
+
+abbrev pub over : ObjId → Stage → Stage
+over d s = keeps ended d s

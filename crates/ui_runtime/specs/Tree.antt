@@ -1,0 +1,64 @@
+-- Components stand in containers.
+use Rattle.std.specs.List.{insert}
+use Rattle.std.specs.Option.{option_map_or}
+use Rattle.std.specs.Prelude.{Bool, Err, List, None, Ok, Option, Result, Some, false, if◌then◌else◌, not, ℕ, ℤ, ◌∷◌}
+use Rattle.flex_base.specs.declared.outcome.Stop.{Stop}
+use Rattle.flex_base.specs.declared.outcome.Stop.TheVariants as stop
+use Rattle.flex_base.specs.declared.value.ObjId.{ObjId}
+use Rattle.flex_world.specs.Children.{child_at, joined_to, place_for, without_child}
+use Rattle.flex_world.specs.Objects.{Object, Spot, ancestors_of, is_object_among, parent_of}
+use Rattle.ui_runtime.specs.Stage.{Stage, change, children_at, object_at, objects}
+
+-- an object, its parent, that one's parent, and so on
+abbrev pub path : ObjId → Stage → List ObjId
+path o s = o ∷ ancestors_of (objects s) o
+
+-- the child at a place, if there is one
+abbrev pub child : ObjId → ℤ → Stage → Option ObjId
+child container place s = child_at (children_at container s) place
+
+abbrev pub without_parent : Object → Object
+without_parent c = record c { parent = None }
+
+abbrev pub lacking : ObjId → Object → Object
+lacking o c = record c { children = without_child o c.children }
+
+abbrev pub left : ObjId → Option ObjId → Stage → Stage
+left o None s = s
+left o (Some parent) s = change o without_parent (change parent (lacking o) s)
+
+-- a component is taken from its parent, if it has one
+abbrev pub taken_out : ObjId → Stage → Stage
+taken_out o s = left o (parent_of (object_at o s)) s
+
+abbrev pub holding_at : ℕ → ObjId → Object → Object
+holding_at place o c = record c { children = insert c.children place o }
+
+abbrev pub joined : ObjId → ObjId → Option Spot → ℕ → Stage → Stage
+joined container o spot place s = change o (joined_to container spot) (change container (holding_at place o) s)
+
+-- the place of a child among those that stand in the container
+abbrev pub place_in : ObjId → Option Spot → Stage → ℕ
+place_in container spot s = place_for (objects s) spot (children_at container s)
+
+abbrev pub was_added : Option Object → Bool
+was_added None = false
+was_added (Some c) = c.was_added
+
+-- where a component was put: from which parent, at which place, and whether it had no parent before
+pub record Placed : Type 0 where
+  pub from : Option ObjId
+  pub place : ℕ
+  pub first : Bool
+
+abbrev pub placed_in : ObjId → ObjId → Option Spot → Stage → Stage → Placed × Stage
+placed_in container o spot before s = (
+  record { from = parent_of (object_at o before); place = place_in container spot s; first = not (was_added (object_at o s)) },
+  joined container o spot (place_in container spot s) s,
+)
+
+-- a component is put into a container, as a declared child where it has a spot, after it has left its parent; it may not hold the container
+abbrev pub places : ObjId → ObjId → Option Spot → Stage → Result (Placed × Stage) Stop
+places container o spot s =
+    if is_object_among o (path container s) then Err stop.Cycle
+    else Ok (placed_in container o spot s (taken_out o s))

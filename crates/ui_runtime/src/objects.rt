@@ -1,0 +1,57 @@
+// The objects of a play, by their numbers.
+
+ghost use Rattle.std.specs.Option.{option_copied};
+ghost use Rattle.std.specs.Prelude.{◌≡◌, [], ◌++◌, ◌∷◌, OnOk, length};
+ghost use Rattle.flex_base.specs.Lists.{entry};
+
+use flex_base::{NoMemory, ObjId, Sequence};
+use flex_objects::Entity;
+use std::alloc::Global;
+use std::marker::Model;
+
+// What is kept for each object, in the order in which they were made: the first has the number 1.
+#[derive(Drop)]
+pub struct Objects {
+    list: Sequence<Entity>,
+}
+
+impl Model for Objects {
+    ghost use Rattle.std.specs.Prelude.{List};
+    ghost use Rattle.flex_objects.specs.Entities.{Entity as Kept};
+
+    ghost Value = { List Kept };
+
+    ghost view = { λ o. o.list };
+}
+
+impl Objects {
+    pub fn new(alloc: Global) -> Objects
+        ensures { result ≡ [] }
+    {
+        Objects {
+            list: Sequence::new(alloc),
+        }
+    }
+
+    pub fn len(&self) -> usize
+        ensures { result ≡ length self.now }
+    {
+        self.list.len()
+    }
+
+    // What is kept for the object of a number.
+    pub fn get(&self, object: ObjId) -> Option<&Entity>
+        ensures { option_copied result ≡ entry self.now object.0 }
+    {
+        match object.0 {
+            0 => None,
+            number => self.list.get(number as usize - 1),
+        }
+    }
+
+    pub fn push(&mut self, entity: Entity) -> Result<(), NoMemory>
+        ensures { OnOk result (self.new ≡ self.old ++ entity ∷ []) }
+    {
+        self.list.push(entity)
+    }
+}
