@@ -1,0 +1,106 @@
+// What the names of classes mean, in the source set and in the catalog.
+
+ghost use Rattle.std.specs.Prelude.{◌≡◌, ◌+◌, ◌<◌, length};
+ghost use Rattle.source_sites.specs.Names.{as_native, catalog_class, catalog_class_in, class_in, is_class, is_named, number_of, source_class};
+ghost use Rattle.as3_types.specs.Meanings.{meaning_of};
+
+use component_catalog::NativeClass;
+use flex_program::Class;
+use source_sites::NamedClass;
+
+/// The namespace of the native classes in documents, by which the catalog knows each of them.
+const SPARK: &str = "library://ns.adobe.com/flex/spark";
+
+/// What a name means.
+#[derive(Clone, Copy)]
+pub enum Meaning {
+    NoClass,
+    /// The class of view states, which is no type and no class in code.
+    State,
+    Class(Class),
+}
+
+impl Meaning {
+    /// Whether it is a class, State among them.
+    pub fn is_found(self) -> bool
+        ensures { result ≡ is_class (meaning_of self) }
+    {
+        match self {
+            Meaning::NoClass => false,
+            Meaning::State => true,
+            Meaning::Class(_) => true,
+        }
+    }
+}
+
+/// A class by its full name: the first source of that name, else one of the catalog.
+pub fn class_in(classes: &[NamedClass], folder: &str, name: &str) -> Meaning
+    requires { length classes.now < 4294967296 }
+    ensures { meaning_of result ≡ class_in classes.now folder.now name.now }
+{
+    match source_class(classes, folder, name) {
+        Meaning::NoClass => catalog_class_in(folder, name),
+        Meaning::State => Meaning::State,
+        Meaning::Class(class) => Meaning::Class(class),
+    }
+}
+
+/// The first source class of a full name.
+pub fn source_class(classes: &[NamedClass], folder: &str, name: &str) -> Meaning
+    requires { length classes.now < 4294967296 }
+    ensures { meaning_of result ≡ source_class classes.now folder.now name.now }
+{
+    match number_named(classes, folder, name) {
+        Some(number) => Meaning::Class(Class::Source(number)),
+        None => Meaning::NoClass,
+    }
+}
+
+// The number of the first class of a full name.
+#[tactic(auto, using(crate::proofs::Numbers::numbered_here, crate::proofs::Numbers::numbered_behind))]
+fn number_named(classes: &[NamedClass], folder: &str, name: &str) -> Option<u32>
+    requires { length classes.now < 4294967296 }
+    ensures { result ≡ number_of (is_named folder.now name.now) 0 classes.now }
+{
+    let mut number = 0;
+    let mut rest = classes;
+    while let Some((class, others)) = rest.split_first() {
+        if is_named(class, folder, name) {
+            return Some(number);
+        }
+        number += 1;
+        rest = others;
+    }
+    None
+}
+
+/// Whether a class has this full name.
+pub fn is_named(class: &NamedClass, folder: &str, name: &str) -> bool
+    ensures { result ≡ is_named folder.now name.now class.now }
+{
+    class.name.as_str() == name && class.folder.as_str() == folder
+}
+
+/// A class of the catalog by its name, whatever its package.
+pub fn catalog_class(name: &str) -> Meaning
+    ensures { meaning_of result ≡ catalog_class name.now }
+{
+    native_meaning(component_catalog::class_of(SPARK, name))
+}
+
+/// A class of the catalog by its full name.
+pub fn catalog_class_in(folder: &str, name: &str) -> Meaning
+    ensures { meaning_of result ≡ catalog_class_in folder.now name.now }
+{
+    native_meaning(component_catalog::class_in(folder, name))
+}
+
+fn native_meaning(class: Option<NativeClass>) -> Meaning
+    ensures { meaning_of result ≡ as_native class }
+{
+    match class {
+        None => Meaning::NoClass,
+        Some(NativeClass::State) => Meaning::State,
+        Some(class) => Meaning::Class(Class::Native(class)),
+    }
+}

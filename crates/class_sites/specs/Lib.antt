@@ -1,0 +1,4 @@
+pub mod ReadingSites
+pub mod ClassSites
+pub mod MemberSites
+pub mod Phases

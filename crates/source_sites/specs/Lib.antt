@@ -1,0 +1,15 @@
+pub mod CodeNames
+pub mod Texts
+pub mod Literals
+pub mod Types
+pub mod Syntax
+pub mod Trees
+pub mod Sources
+pub mod Sites
+pub mod Paths
+pub mod Scripts
+pub mod Names
+pub mod Bases
+pub mod Functions
+pub mod Members
+pub mod LookUps
