@@ -1,7 +1,7 @@
 -- What the look-ups of the code answer.
 use Rattle.std.specs.Prelude.{List, Option, map, option_map}
-use Rattle.flex_program.specs.CodeTerms.{class_of}
-use Rattle.flex_program.specs.declared.kind.Class.{Class}
+use Rattle.flex_world.specs.Kinds.{class_of}
+use Rattle.flex_world.specs.declared.kind.Class.{Class}
 use Rattle.flex_world.specs.Classes as world
 use Rattle.source_sites.specs.Names as names
 use Rattle.as3_types.specs.declared.meaning.Meaning.{Meaning}

@@ -2,7 +2,7 @@
 
 ghost use Rattle.std.specs.Prelude.{◌≡◌, ◌+◌, ◌<◌, ◌∷◌, [], length, map, Some, option_map, not, ◌||◌, ◌==◌};
 ghost use Rattle.std.specs.List.{list_any};
-ghost use Rattle.flex_program.specs.CodeTerms.{class_of};
+ghost use Rattle.flex_world.specs.Kinds.{class_of};
 ghost use Rattle.flex_world.specs.Classes.{base_in, descends, is_component, same_class, same_native, upward_in};
 ghost use Rattle.source_sites.specs.Bases.{is_in_ring};
 ghost use Rattle.source_sites.specs.Sites.{first_site, rule};
@@ -13,7 +13,7 @@ use crate::meaning::Meaning;
 use crate::names::is_document_class;
 use crate::words::site_unless;
 use component_catalog::NativeClass;
-use flex_program::Class;
+use flex_world::Class;
 use source_sites::{Code, NamedClass, Site};
 
 /// How many classes of the catalog may stand above one another.
@@ -25,7 +25,7 @@ pub fn base_cycle(bases: &[Option<Class>], file: u32, at: usize) -> Option<Site>
     requires { length bases.now < 4294967296 }
     ensures { result ≡ first_site file (base_cycle (bases_of bases.now) file at ∷ []) }
 {
-    let class = Class::Source(file);
+    let class = Class::File(file);
     let holds = !stands_above(bases, base_of(bases, class), class);
     site_unless(holds, file, at, Code::BaseCycle)
 }
@@ -36,7 +36,7 @@ pub fn not_application(bases: &[Option<Class>], file: u32, at: usize) -> Option<
     ensures { result ≡ first_site file (not_application (bases_of bases.now) file at ∷ []) }
 {
     let application = Class::Native(NativeClass::Application);
-    let holds = file != 0 || descends(bases, Class::Source(file), application);
+    let holds = file != 0 || descends(bases, Class::File(file), application);
     site_unless(holds, file, at, Code::NotApplication)
 }
 
@@ -106,7 +106,7 @@ pub fn base_of(bases: &[Option<Class>], class: Class) -> Option<Class>
             Some(base) => Some(Class::Native(base)),
             None => None,
         },
-        Class::Source(number) => match bases.get(number as usize) {
+        Class::File(number) => match bases.get(number as usize) {
             Some(base) => *base,
             None => None,
         },
@@ -118,7 +118,7 @@ fn is_same(one: Class, other: Class) -> bool
 {
     match (one, other) {
         (Class::Native(one), Class::Native(other)) => is_same_native(one, other),
-        (Class::Source(one), Class::Source(other)) => one == other,
+        (Class::File(one), Class::File(other)) => one == other,
         _ => false,
     }
 }

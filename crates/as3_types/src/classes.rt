@@ -15,7 +15,7 @@ use crate::names::{duplicate_class, unknown_base, wrong_base, wrong_class_name};
 use crate::words::site_unless;
 use as3_parser::Lexeme;
 use flex_base::{NoMemory, Text};
-use flex_program::Class;
+use flex_world::Class;
 use source_sites::{Code, NamedClass, ParsedClass, Site};
 use std::alloc::Global;
 

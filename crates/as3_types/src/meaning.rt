@@ -5,7 +5,7 @@ ghost use Rattle.source_sites.specs.Names.{as_native, catalog_class, catalog_cla
 ghost use Rattle.as3_types.specs.Meanings.{meaning_of};
 
 use component_catalog::NativeClass;
-use flex_program::Class;
+use flex_world::Class;
 use source_sites::NamedClass;
 
 /// The namespace of the native classes in documents, by which the catalog knows each of them.
@@ -51,7 +51,7 @@ pub fn source_class(classes: &[NamedClass], folder: &str, name: &str) -> Meaning
     ensures { meaning_of result ≡ source_class classes.now folder.now name.now }
 {
     match number_named(classes, folder, name) {
-        Some(number) => Meaning::Class(Class::Source(number)),
+        Some(number) => Meaning::Class(Class::File(number)),
         None => Meaning::NoClass,
     }
 }

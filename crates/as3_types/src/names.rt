@@ -6,12 +6,12 @@ ghost use Rattle.source_sites.specs.Names.{catalog_class, catalog_class_in, is_c
 ghost use Rattle.source_sites.specs.Sites.{first_site, rule};
 ghost use Rattle.source_sites.specs.Trees.{class_file_of};
 ghost use Rattle.class_sites.specs.ClassSites.{duplicate_class, has_own_name, is_document_class, may_be_extended, unknown_base, wrong_base, wrong_class_name};
-ghost use Rattle.flex_program.specs.CodeTerms.{class_of};
+ghost use Rattle.flex_world.specs.Kinds.{class_of};
 ghost use Rattle.as3_types.specs.Meanings.{meaning_of};
 
 use crate::meaning::{Meaning, catalog_class, catalog_class_in, is_named};
 use crate::words::site_unless;
-use flex_program::Class;
+use flex_world::Class;
 use source_sites::{Code, NamedClass, ParsedClass, Site};
 
 /// A class has the name of its file. At the class name.
@@ -86,7 +86,7 @@ pub fn is_document_class(classes: &[NamedClass], class: Class) -> bool
 {
     match class {
         Class::Native(_) => false,
-        Class::Source(number) => match classes.get(number as usize) {
+        Class::File(number) => match classes.get(number as usize) {
             Some(class) => class.is_document,
             None => false,
         },

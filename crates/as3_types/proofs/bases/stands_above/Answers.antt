@@ -1,6 +1,6 @@
 use Rattle.std.proofs.Common.{◌∙◌, sym, ap, length, ◌+◌}
 use Rattle.std.specs.Prelude.{option_map}
-use Rattle.flex_program.specs.CodeTerms.{class_of}
+use Rattle.flex_world.specs.Kinds.{class_of}
 use Rattle.as3_types.specs.Meanings.{bases_of}
 use Rattle.as3_types.proofs.Upward.{is_above, one_up}
 use Rattle.as3_types.proofs.bases.stands_above.Goals as goal
