@@ -1,0 +1,9 @@
+pub mod Items
+pub mod MarkLaws
+pub mod OperandLaws
+pub mod WayLaws
+pub mod KnownLaws
+pub mod FollowedLaws
+pub mod ReasonLaws
+pub mod PathReasonLaws
+pub mod BodiesLaws

@@ -1,0 +1,4 @@
+pub mod Paths
+pub mod Operands
+pub mod Verified
+pub mod Laws
