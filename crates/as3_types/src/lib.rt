@@ -6,6 +6,8 @@ mod classes;
 mod imports;
 mod meaning;
 mod names;
+#[cfg(test)]
+mod tests;
 mod words;
 
 pub use bases::{base_cycle, base_of, descends, not_application, wrong_root};
