@@ -21,6 +21,6 @@ pub use document::{
     Override, Part, Presence, State, WatchedChain,
 };
 pub use flex_world::{Class, StaticType};
-pub use operator::Operator;
 pub use laws::{laws_of_classes, laws_of_terms};
+pub use operator::Operator;
 pub use program::{Constructor, Member, Program, SourceClass, Variable};

@@ -100,8 +100,8 @@ names-spelled count few =
     table-spelled IsMultiname multiname_bytes (fixed_names ++ each_from element_names 0 count) (omega arith)
     (names-all (IsSpelled IsMultiname multiname_bytes) count
     (λ namespace name le less.
-        joined (0x07 ∷ []) (u30_bytes namespace ++ u30_bytes name) refl
-        (joined (u30_bytes namespace) (u30_bytes name) (low namespace (omega arith)) (low name (omega arith)))))
+    joined (0x07 ∷ []) (u30_bytes namespace ++ u30_bytes name) refl
+    (joined (u30_bytes namespace) (u30_bytes name) (low namespace (omega arith)) (low name (omega arith)))))
 
 -- the pool
 pool-spelled : (es : List Element) → length es ≤ 100 → All IsShort es → IsPool (pool_of es) (pool_bytes (pool_of es))

@@ -9,9 +9,9 @@ ghost use Rattle.avm2_code.specs.declared.instruction.Instruction.TheVariants.{G
 ghost use Rattle.flexc.specs.Emitted.{encode_all, each_from, each_handler, fixed_strings, element_strings, handler_text, class_number, id_string, text_string, handler_string, id_name, handler_name, rank_int, fixed_names, element_names, namespaces, pool_of, plain_method, handler_method, methods_of, handler_number, bindable, id_trait, building_trait, handler_trait, instance_traits, instance_of, class_info, script_info, making_code, place_code, element_code, building_code, handler_code, body, handler_body, bodies_of, abc_of};
 
 use abc_format::{
-    Abc, ClassIndex, ClassInfo, ConstantPool, InstanceInfo, MetadataIndex, MetadataInfo, MethodBody,
-    MethodIndex, MethodInfo, Multiname, MultinameIndex, Namespace, NamespaceIndex, NamespaceKind,
-    ScriptInfo, StringIndex, Trait, TraitKind,
+    Abc, ClassIndex, ClassInfo, ConstantPool, InstanceInfo, MetadataIndex, MetadataInfo,
+    MethodBody, MethodIndex, MethodInfo, Multiname, MultinameIndex, Namespace, NamespaceIndex,
+    NamespaceKind, ScriptInfo, StringIndex, Trait, TraitKind,
 };
 use avm2_code::{Instruction, Part, Parts, assemble};
 use flex_base::{Bytes, NoMemory, Sequence, Text};
