@@ -7,15 +7,10 @@ use Rattle.avm2_code.specs.declared.instruction.Instruction.{Instruction}
 use Rattle.avm2_code.specs.declared.reason.CodeReason.{CodeReason}
 use Rattle.avm2_code.specs.Body.{IsReadTo, HasInstruction}
 use Rattle.avm2_code.specs.Reading.{instruction_at}
-use Rattle.avm2_code.proofs.InstructionLaws.{read_stands, standing-bounds}
-use Rattle.verified_code.proofs.PathLaws.{one_place}
+use Rattle.avm2_code.proofs.BodyLaws.{one_place, read_bounds}
 use Rattle.avm2_verify.specs.Marking.{IsMarkedTo}
 use Rattle.avm2_verify.specs.Tables.{AreMarks}
 use Rattle.avm2_verify.proofs.Items.{get_set_same, get_set_cases, get_replicate}
-
--- an instruction that can be read ends within the code
-pub read_bounds : (code : List ℕ) (place : ℕ) (i : Instruction) (next : ℕ) → instruction_at code place ≡ Ok (i, next) → (place < next) × (next ≤ length code)
-read_bounds code place i next e = standing-bounds code place i next (read_stands code place (i, next) e)
 
 -- the place behind fewer instructions, where more are read
 record Passes (code : List ℕ) (count : ℕ) : Type 0 where

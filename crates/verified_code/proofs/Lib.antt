@@ -1,2 +1,3 @@
 pub mod PathLaws
 pub mod ReasonLaws
+pub mod SoundLaws

@@ -1,4 +1,5 @@
 pub mod Paths
 pub mod Operands
 pub mod Verified
+pub mod Sound
 pub mod Laws

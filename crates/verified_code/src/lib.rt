@@ -3,6 +3,7 @@
 #![tactic(auto)]
 
 ghost use Rattle.verified_code.specs.Laws.{HasOneFirstReason};
+ghost use Rattle.verified_code.specs.Sound.{VerifiedIsSound, VerifiedListsAreSound};
 
 /// What a path has before an instruction.
 #[derive(Clone, Copy, PartialEq, Eq, Debug)]
@@ -16,4 +17,12 @@ pub struct Depths {
 /// Records have at most one first reason, and none where their code is verified.
 pub fn laws_of_reasons()
     ensures { HasOneFirstReason }
+{}
+
+/// Of verified code, each branch meets an instruction, a label where it leads back; what stands
+/// behind an instruction of a path that goes on is an instruction; what operands name is there, and
+/// locals are below their count; and paths keep the depths of their body.
+pub fn laws_of_verified_code()
+    ensures sound { VerifiedIsSound }
+    ensures listed { VerifiedListsAreSound }
 {}
