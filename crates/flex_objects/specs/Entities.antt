@@ -13,7 +13,7 @@ use Rattle.flex_world.specs.declared.kind.Class as declared
 use Rattle.flex_objects.specs.Properties.{after_write, stored}
 use Rattle.flex_objects.specs.declared.properties.Stored.{Stored}
 use Rattle.flex_world.specs.Making.{is_computed, new_object}
-use Rattle.flex_world.specs.Objects.{An_array, Field, Instance_of, Keeping, Kind, Object, computed_property, field_named, without_number}
+use Rattle.flex_world.specs.Objects.{An_array, Field, Instance_of, Keeping, Kind, Listener, Object, computed_property, field_named, without_number}
 
 -- what objects of a class have at first: the properties that the source knows, and those in the namespace of the runtime
 pub record Shape : Type 0 where
@@ -23,20 +23,36 @@ pub record Shape : Type 0 where
   pub fields : List Field
   pub hidden : List Field
 
+-- a state that a document registered, and what is called when it is left and entered
+pub record RegisteredState : Type 0 where
+  pub name : List ℕ
+  pub leave : Listener
+  pub enter : Listener
+
+-- a binding that a document enabled: its number, that of its counterpart, and what runs it
+pub record EnabledBinding : Type 0 where
+  pub number : ℕ
+  pub pair : Option ℕ
+  pub method : Listener
+
 -- what of an object the source knows nothing of
 pub record Inside : Type 0 where
   pub native : Option NativeClass
   -- the properties in the namespace of the runtime
   pub hidden : List Field
-  -- of a document: the names of its states, in order of registration
-  pub states : List (List ℕ)
+  -- of a document: it has begun to enter its first state
+  pub begun : Bool
+  -- its states, in order of registration
+  pub states : List RegisteredState
+  -- its bindings, in the order in which they were enabled
+  pub bindings : List EnabledBinding
 
 pub record Entity : Type 0 where
   pub object : Object
   pub inside : Inside
 
 abbrev pub new_entity : Kind → Option NativeClass → List Field → List Field → Entity
-new_entity kind native fields hidden = record { object = new_object kind fields []; inside = record { native = native; hidden = hidden; states = [] } }
+new_entity kind native fields hidden = record { object = new_object kind fields []; inside = record { native = native; hidden = hidden; begun = false; states = []; bindings = [] } }
 
 abbrev pub new_array : Entity
 new_array = new_entity An_array None [] []
@@ -85,8 +101,8 @@ abbrev pub element_at : List Value → ℤ → Option Value
 element_at elements (pos n) = slice_get elements n
 element_at elements (negsuc n) = None
 
-abbrev pub is_among : List ℕ → List (List ℕ) → Bool
-is_among name names = list_any (λ other. bytes_eq other name) names
+abbrev pub listener : ObjId → ℕ → Listener
+listener o m = record { object = o; method = m }
 
 -- a number at its place among others in order
 abbrev pub insert_number : ℕ → List ℕ → List ℕ

@@ -8,6 +8,7 @@ ghost use Rattle.flex_objects.specs.Entities.{after_write_in, computed, kind_of,
 
 use crate::children::Children;
 use crate::delivery::Delivery;
+use crate::document::{EnabledBinding, RegisteredState};
 use crate::elements::Elements;
 use crate::keeping::Keeping;
 use crate::parent::Parent;
@@ -15,7 +16,7 @@ use crate::properties::{Properties, Stored};
 use crate::slots::SlotTable;
 use component_catalog::{NativeClass, property_of};
 use event_flow::Listeners;
-use flex_base::{Names, NoMemory, ObjId, Value};
+use flex_base::{NoMemory, ObjId, Sequence, Value};
 use flex_world::Class;
 use std::alloc::Global;
 use std::marker::Model;
@@ -94,8 +95,12 @@ pub struct Entity {
     pub delivery: Delivery,
     /// Of a document.
     pub keeping: Keeping,
-    /// Of a document: the names of its states, in order of registration.
-    pub states: Names,
+    /// Of a document: it has begun to enter its first state.
+    pub begun: bool,
+    /// Its states, in order of registration.
+    pub states: Sequence<RegisteredState>,
+    /// Its bindings, in the order in which they were enabled.
+    pub bindings: Sequence<EnabledBinding>,
 }
 
 impl Model for Entity {
@@ -116,7 +121,13 @@ impl Model for Entity {
         delivery = e.delivery;
         keeping = e.keeping;
       };
-      inside = record { native = e.native; hidden = e.hidden; states = e.states };
+      inside = record {
+        native = e.native;
+        hidden = e.hidden;
+        begun = e.begun;
+        states = e.states;
+        bindings = e.bindings;
+      };
     } };
 }
 
@@ -169,7 +180,9 @@ impl Entity {
             spot: None,
             delivery: Delivery::none(),
             keeping: Keeping::new(alloc),
-            states: Names::new(alloc),
+            begun: false,
+            states: Sequence::new(alloc),
+            bindings: Sequence::new(alloc),
         }
     }
 

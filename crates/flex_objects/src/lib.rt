@@ -6,6 +6,7 @@
 
 mod children;
 mod delivery;
+mod document;
 mod elements;
 mod entity;
 mod keeping;
@@ -17,6 +18,7 @@ mod tests;
 
 pub use children::Children;
 pub use delivery::Delivery;
+pub use document::{EnabledBinding, RegisteredState};
 pub use elements::Elements;
 pub use entity::{ClassInfo, Entity, Spot};
 pub use keeping::Keeping;

@@ -1,7 +1,7 @@
 -- What documents keep of their bindings and states.
-use Rattle.std.specs.List.{fold}
+use Rattle.std.specs.List.{find, fold}
 use Rattle.std.specs.Option.{option_map_or}
-use Rattle.std.specs.Prelude.{Bool, Err, List, None, Ok, Option, Result, Some, [], false, if◌then◌else◌, not, option_and_then, slice_get, ℕ, ◌++◌, ◌||◌, ◌∷◌}
+use Rattle.std.specs.Prelude.{Bool, true, Err, List, None, Ok, Option, Result, Some, [], bytes_eq, false, if◌then◌else◌, is_some, not, option_and_then, option_map, slice_get, ℕ, ◌++◌, ◌==◌, ◌||◌, ◌∷◌}
 use Rattle.flex_base.specs.Value.{same}
 use Rattle.flex_base.specs.declared.outcome.Stop.{Stop}
 use Rattle.flex_base.specs.declared.outcome.Stop.TheVariants as stop
@@ -10,7 +10,7 @@ use Rattle.flex_base.specs.declared.value.Value.{Value}
 use Rattle.flex_base.specs.declared.value.Value.TheVariants as value
 use Rattle.flex_world.specs.Making.{keeps_nothing}
 use Rattle.flex_world.specs.Objects.{Keeping, Object, current_state, is_number_among, property}
-use Rattle.flex_objects.specs.Entities.{Inside, begun, ended, is_among, with_enabled, with_kept, with_open, without_open}
+use Rattle.flex_objects.specs.Entities.{EnabledBinding, Inside, RegisteredState, begun, ended, with_enabled, with_kept, with_open, without_open}
 use Rattle.watch_table.specs.Affected.{with_chain}
 use Rattle.ui_runtime.specs.Stage.{Stage, change, change_inside, inside_at, object_at}
 
@@ -20,9 +20,23 @@ keeping_at d s = option_map_or (λ (c : Object). c.keeping) (object_at d s) keep
 abbrev pub keeps : (Keeping → Keeping) → ObjId → Stage → Stage
 keeps f d s = change d (λ c. record c { keeping = f c.keeping }) s
 
+abbrev pub watching : ObjId → ℕ → List (List (List ℕ)) → Stage → Stage
+watching d n chains s = record s { watched = fold (λ ws chain. with_chain d n chain ws) s.watched chains }
+
+abbrev pub with_binding : EnabledBinding → Inside → Inside
+with_binding b i = record i { bindings = i.bindings ++ b ∷ [] }
+
 -- a binding is enabled, and its chains are watched
-abbrev pub binds : ObjId → ℕ → List (List (List ℕ)) → Stage → Stage
-binds d n chains s = keeps (with_enabled n) d (record s { watched = fold (λ ws chain. with_chain d n chain ws) s.watched chains })
+abbrev pub binds : ObjId → EnabledBinding → List (List (List ℕ)) → Stage → Stage
+binds d b chains s = change_inside d (with_binding b) (keeps (with_enabled b.number) d (watching d b.number chains s))
+
+-- the binding of a number, among those that a document enabled
+abbrev pub binding_numbered : ℕ → List EnabledBinding → Option EnabledBinding
+binding_numbered n bindings = find (λ (b : EnabledBinding). b.number == n) bindings
+
+-- a document begins to enter its first state
+abbrev pub begins_states : ObjId → Stage → Stage
+begins_states d s = change_inside d (λ i. record i { begun = true }) s
 
 abbrev pub is_enabled : ObjId → ℕ → Stage → Bool
 is_enabled d n s = is_number_among n (keeping_at d s).enabled
@@ -37,14 +51,22 @@ opens d n s = keeps (with_open n) d s
 abbrev pub closes : ObjId → ℕ → Stage → Stage
 closes d n s = keeps (without_open n) d s
 
-abbrev pub states_at : ObjId → Stage → List (List ℕ)
+abbrev pub with_state : RegisteredState → Inside → Inside
+with_state state i = record i { states = i.states ++ state ∷ [] }
+
+-- a document registers its next state
+abbrev pub registers : ObjId → RegisteredState → Stage → Stage
+registers d state s = change_inside d (with_state state) s
+
+-- the state of this name, among those that a document registered
+abbrev pub state_named : List ℕ → List RegisteredState → Option RegisteredState
+state_named name states = find (λ (state : RegisteredState). bytes_eq state.name name) states
+
+abbrev pub states_at : ObjId → Stage → List RegisteredState
 states_at d s = option_map_or (λ (i : Inside). i.states) (inside_at d s) []
 
-abbrev pub adds_state : ObjId → List ℕ → Stage → Stage
-adds_state d name s = change_inside d (λ i. record i { states = i.states ++ name ∷ [] }) s
-
 abbrev pub has_state : ObjId → List ℕ → Stage → Bool
-has_state d name s = is_among name (states_at d s)
+has_state d name s = is_some (state_named name (states_at d s))
 
 abbrev pub is_text : List ℕ → Option Value → Bool
 is_text text None = false
@@ -73,7 +95,7 @@ requests d name s =
 
 -- the first state, if there is one, which a change begins to enter
 abbrev pub first_state : ObjId → Stage → Option (List ℕ)
-first_state d s = slice_get (states_at d s) 0
+first_state d s = option_map (λ (state : RegisteredState). state.name) (slice_get (states_at d s) 0)
 
 abbrev pub begins : Option (List ℕ) → ObjId → Stage → Stage
 begins None d s = s

@@ -1,0 +1,31 @@
+-- What a native call gives, and what it comes to besides.
+use Rattle.std.specs.Prelude.{Bool, None, Option, Some}
+use Rattle.flex_base.specs.declared.value.Value.{Value}
+use Rattle.flex_base.specs.declared.value.Value.TheVariants as value
+use Rattle.avm2_meaning.specs.Effects.{Acted, Effect, Next, acted, answered, effect, silent}
+use Rattle.avm2_meaning.specs.Frames.{Work, keeps}
+use Rattle.avm2_meaning.specs.Heap.{Heap}
+use Rattle.avm2_meaning.specs.Operands.{Plain}
+use Rattle.avm2_meaning.specs.Results.{Goes, Result}
+
+-- a value, if it is there at once
+pub record Reply : Type 0 where
+  pub value : Option Value
+  pub effect : Effect
+
+abbrev pub reply : Value → Effect → Heap → Result Reply
+reply v e h = Goes (record { value = Some v; effect = e }) h
+
+abbrev pub gives : Value → Heap → Result Reply
+gives v h = reply v (silent Next.On) h
+
+abbrev pub gives_nothing : Heap → Result Reply
+gives_nothing h = gives value.Undefined h
+
+abbrev pub with_reply : Bool → Option Value → Work → Work
+with_reply keeps None w = w
+with_reply keeps (Some v) w = answered keeps (Plain v) w
+
+-- the code that called goes on with what it gives
+abbrev pub finish : Bool → Work → Reply → Acted Work
+finish keeps w r = acted r.effect (with_reply keeps r.value w)

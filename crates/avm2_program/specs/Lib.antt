@@ -1,0 +1,7 @@
+pub mod Names
+pub mod Program
+pub mod Decoding
+pub mod Naming
+pub mod Traits
+pub mod Operations
+pub mod Resolving
