@@ -26,3 +26,5 @@ pub mod Apply
 pub mod Load
 pub mod Step
 pub mod Trace
+pub mod GoingOn
+pub mod Examples

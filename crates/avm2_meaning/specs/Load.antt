@@ -25,6 +25,16 @@ numbers_from n (x ∷ xs) = n ∷ numbers_from (suc n) xs
 abbrev pub script_statics : Script → Statics
 script_statics script = record { slots = script.slots; written = [] }
 
+-- the number of the first class that was made and has this full dotted name, from a number on
+abbrev pub main_class : List ℕ → ℕ → List FileClass → List (Option MadeClass) → Option ℕ
+main_class name k (class ∷ classes) (made ∷ others) =
+    if is_some made && bytes_eq class.name name then Some k else main_class name (suc k) classes others
+main_class name k _ _ = None
+
+abbrev pub complete_main : Option ObjId → Machine → Machine
+complete_main None m = over_with (Fault fault.NotHere) m
+complete_main (Some main) m = above (Frame.Does (Native.Announces creation_complete main)) (record m { load = Loaded })
+
 module _ (p : Program) where
   abbrev pub empty_heap : Heap
   empty_heap = record { stage = empty_stage; written = []; classes = replicate (length p.classes) None; scripts = map script_statics p.scripts }
@@ -51,12 +61,6 @@ module _ (p : Program) where
   load_script n None m = record m { load = MakesMain }
   load_script n (Some script) m = land_script (initialiser p script.initialiser (ScriptValue n) m.heap) (record m { load = Scripts (suc n) })
 
-  -- the number of the first class that was made and has this full dotted name, from a number on
-  abbrev pub main_class : List ℕ → ℕ → List FileClass → List (Option MadeClass) → Option ℕ
-  main_class name k (class ∷ classes) (made ∷ others) =
-      if is_some made && bytes_eq class.name name then Some k else main_class name (suc k) classes others
-  main_class name k _ _ = None
-
   abbrev pub land_main : Result (Acted ObjId) → Machine → Moved
   land_main (Goes a h) m = settled a.effect (proceed p a.effect.next (record m { heap = h; load = CompletesMain; main = Some a.work }))
   land_main (Halts o) m = unseen (over_with o m)
@@ -64,10 +68,6 @@ module _ (p : Program) where
   abbrev pub make_main : Option ℕ → Machine → Moved
   make_main None m = unseen (over_with (Fault fault.NoName) m)
   make_main (Some k) m = land_main (construct_file p k [] m.heap) m
-
-  abbrev pub complete_main : Option ObjId → Machine → Machine
-  complete_main None m = over_with (Fault fault.NotHere) m
-  complete_main (Some main) m = above (Frame.Does (Native.Announces creation_complete main)) (record m { load = Loaded })
 
   -- the next thing of the load; the main class has this full dotted name
   abbrev pub load_on : List ℕ → Load → Machine → Moved

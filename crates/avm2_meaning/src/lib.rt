@@ -1,2 +1,13 @@
-//! What files mean: the records and the outcome of the play of an ABC, step by step.
+//! What files mean: the records and the outcome of the play of an ABC, step by step. The function
+//! here does nothing: it is a law that its contract states.
 #![tactic(auto)]
+
+ghost use Rattle.avm2_meaning.specs.GoingOn.{HasOneStory, MoreTurnsGoOn};
+
+/// A file shows one story at most under a script, with so many turns. More turns go on where fewer
+/// ended: what was seen is the beginning of what is seen with more turns, and a play that came to
+/// another end stays as it was.
+pub fn laws_of_plays()
+    ensures one { HasOneStory }
+    ensures more { MoreTurnsGoOn }
+{}

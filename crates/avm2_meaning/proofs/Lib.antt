@@ -1,0 +1,3 @@
+pub mod MoreTurns
+pub mod Plays
+pub mod Examples

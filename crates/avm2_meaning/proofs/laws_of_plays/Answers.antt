@@ -1,0 +1,8 @@
+use Rattle.avm2_meaning.proofs.Plays.{more_turns_go_on, one_story}
+use Rattle.avm2_meaning.proofs.laws_of_plays.Goals as goal
+
+pub returns-clause-one : goal.returns-clause-one
+returns-clause-one c = one_story
+
+pub returns-clause-more : goal.returns-clause-more
+returns-clause-more c = more_turns_go_on
