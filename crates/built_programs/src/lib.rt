@@ -3,9 +3,11 @@
 
 mod building;
 mod children;
+mod fine;
 mod laws;
 #[cfg(test)]
 mod tests;
 
 pub use building::source_program;
+pub use fine::source_programs_are_fine;
 pub use laws::small_documents_mean;
