@@ -1,6 +1,6 @@
 -- What is known of a body grows along its paths, and in the end is all of them.
 use Rattle.std.proofs.Common.{◌≡◌, ℕ, zero, suc, ◌<◌, ◌⊎◌, inl, inr, List, [], ◌∷◌, length, Option, Some, None, slice_get, refl, sym, ap, ◌∙◌, subst, arith, length-append}
-use Rattle.std.specs.Prelude.{Bool, true, false, MatchBool, Contains}
+use Rattle.std.specs.Prelude.{Bool, true, false, MatchBool, Contains, Result, Ok, Err, IfOk}
 use Rattle.std.proofs.lemmas.List.Elements.{Contains-push_cases}
 use Rattle.abc_format.specs.declared.records.Abc.{Abc}
 use Rattle.abc_format.specs.declared.records.MethodBody.{MethodBody}
@@ -179,7 +179,7 @@ module _ (a : Abc) (b : MethodBody) where
           on from before to behind s (inr h) = is_known k to behind (h to behind s)
 
   -- both ways, from what was known first
-  pub second_way : (place : ℕ) (before : Depths) (w : Ways) (k m l : Known) → IsKnown k place before → AreWays a b place before (Some w) → Grows w.next w.behind k m → IsFollowed a b (Waits place k) k → (same : Bool)
+  second_way : (place : ℕ) (before : Depths) (w : Ways) (k m l : Known) → IsKnown k place before → AreWays a b place before (Some w) → Grows w.next w.behind k m → IsFollowed a b (Waits place k) k → (same : Bool)
       → MatchBool same (Grows w.branch w.behind m l) (IsOther w.branch w.behind m) → MatchBool same (IsFollowed a b (Contains l.work) l × (unfinished l ≡ unfinished k)) (BodyDiffers a b)
   second_way place before w k m l known ways g f true h =
       let on = grows place before w w.next k m known ways (leads_next w) g f in
@@ -187,3 +187,10 @@ module _ (a : Abc) (b : MethodBody) where
       (followed place before l (h.keeps place before (g.keeps place before known)) (both_known place before w m l ways g.known h) far, h.same ∙ g.same)
   second_way place before w k m l known ways g f false h =
       differs place before w w.branch m (g.keeps place before known) ways (leads_branch w) h (grows place before w w.next k m known ways (leads_next w) g f)
+
+  -- where memory is there
+  pub both_ways : {E : Type 0} (place : ℕ) (before : Depths) (w : Ways) (k m l : Known) → IsKnown k place before → AreWays a b place before (Some w) → Grows w.next w.behind k m → IsFollowed a b (Waits place k) k
+      → (r : Result Bool E) → IfOk r (λ same. MatchBool same (Grows w.branch w.behind m l) (IsOther w.branch w.behind m))
+      → IfOk r (λ same. MatchBool same (IsFollowed a b (Contains l.work) l × (unfinished l ≡ unfinished k)) (BodyDiffers a b))
+  both_ways place before w k m l known ways g f (Ok same) h = second_way place before w k m l known ways g f same h
+  both_ways place before w k m l known ways g f (Err e) h = h

@@ -56,5 +56,9 @@ fn follow_from(
     let Some(ways) = ways_on(abc, body, marks, place, before) else {
         return Ok(true);
     };
-    Ok(walk.arrive(ways.next, ways.behind)? && walk.arrive(ways.branch, ways.behind)?)
+    if walk.arrive(ways.next, ways.behind)? {
+        walk.arrive(ways.branch, ways.behind)
+    } else {
+        Ok(false)
+    }
 }

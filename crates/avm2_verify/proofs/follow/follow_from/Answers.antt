@@ -1,6 +1,6 @@
 use Rattle.std.proofs.Common.{◌∙◌, refl, sym, subst}
 use Rattle.avm2_verify.specs.Ways.{LeadTo}
-use Rattle.avm2_verify.proofs.FollowedLaws.{known_stands, followed, differs, leads_next, leads_branch, leads_inside, second_way}
+use Rattle.avm2_verify.proofs.FollowedLaws.{known_stands, followed, differs, leads_next, leads_branch, leads_inside, both_ways}
 use Rattle.avm2_verify.proofs.KnownLaws.{known_is}
 use Rattle.avm2_verify.proofs.follow.follow_from.Goals as goal
 
@@ -23,16 +23,16 @@ arrive-requires-then-branch c =
     let g = rw c.if-branch.true at c.in_ok-arrive.ensures in
     leads_inside c.args.abc.now c.args.body.now c.args.place c.in-Some.before w w.branch c.arrive.new.self c.in-Some-ways_on.ensures (leads_branch c.args.abc.now c.args.body.now w) (g.long ∙ c.requires.followed.long)
 
-pub returns-in_ok-arrive-2 : goal.returns-in_ok-arrive-2
-returns-in_ok-arrive-2 c =
+pub returns-then-branch : goal.returns-then-branch
+returns-then-branch c =
     let known = known_is c.args.walk.now c.args.place c.in-Some.before (sym c.in-Some.ensures) in
     let g = rw c.if-branch.true at c.in_ok-arrive.ensures in
-    second_way c.args.abc.now c.args.body.now c.args.place c.in-Some.before c.in-Some-ways_on.ways c.args.walk.now c.arrive.new.self c.arrive-then-branch.new.self known c.in-Some-ways_on.ensures g c.requires.followed
-    c.in_ok-arrive-2.field-0 c.in_ok-arrive-2.ensures
+    both_ways c.args.abc.now c.args.body.now c.args.place c.in-Some.before c.in-Some-ways_on.ways c.args.walk.now c.arrive.new.self c.arrive-then-branch.new.self known c.in-Some-ways_on.ensures g c.requires.followed
+    c.arrive-then-branch.result c.arrive-then-branch.ensures
 
 pub returns-else-branch : goal.returns-else-branch
 returns-else-branch c =
     let w = c.in-Some-ways_on.ways in
     let known = known_is c.args.walk.now c.args.place c.in-Some.before (sym c.in-Some.ensures) in
     let o = rw c.if-branch.false at c.in_ok-arrive.ensures in
-    rw c.if-branch.false (differs c.args.abc.now c.args.body.now c.args.place c.in-Some.before w w.next c.args.walk.now known c.in-Some-ways_on.ensures (leads_next c.args.abc.now c.args.body.now w) o c.requires.followed)
+    differs c.args.abc.now c.args.body.now c.args.place c.in-Some.before w w.next c.args.walk.now known c.in-Some-ways_on.ensures (leads_next c.args.abc.now c.args.body.now w) o c.requires.followed
