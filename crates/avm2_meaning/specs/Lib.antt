@@ -28,3 +28,4 @@ pub mod Step
 pub mod Trace
 pub mod GoingOn
 pub mod Examples
+pub mod StopExamples

@@ -1,8 +1,10 @@
-//! What files mean: the records and the outcome of the play of an ABC, step by step. The function
-//! here does nothing: it is a law that its contract states.
+//! What files mean: the records and the outcome of the play of an ABC, step by step. The functions
+//! here do nothing: each is a law that its contract states.
 #![tactic(auto)]
 
+ghost use Rattle.avm2_meaning.specs.Examples.{GreetingPlays, SpentPlays};
 ghost use Rattle.avm2_meaning.specs.GoingOn.{HasOneStory, MoreTurnsGoOn};
+ghost use Rattle.avm2_meaning.specs.StopExamples.{StopsByCause};
 
 /// A file shows one story at most under a script, with so many turns. More turns go on where fewer
 /// ended: what was seen is the beginning of what is seen with more turns, and a play that came to
@@ -10,4 +12,12 @@ ghost use Rattle.avm2_meaning.specs.GoingOn.{HasOneStory, MoreTurnsGoOn};
 pub fn laws_of_plays()
     ensures one { HasOneStory }
     ensures more { MoreTurnsGoOn }
+{}
+
+/// What small files come to, by computation: an application that traces a text, with turns and
+/// without, and a file for each machine fault and for most stops.
+pub fn small_files_mean()
+    ensures greeting { GreetingPlays }
+    ensures spent { SpentPlays }
+    ensures stops { StopsByCause }
 {}
