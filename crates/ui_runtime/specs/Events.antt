@@ -1,5 +1,5 @@
 -- Events and their listeners.
-use Rattle.std.specs.Prelude.{Bool, List, Option, Some, codes, if◌then◌else◌, option_map, unwrap_or, false, true, ℕ, ℤ}
+use Rattle.std.specs.Prelude.{Bool, List, codes, if◌then◌else◌, false, ℕ}
 use Rattle.std.specs.Option.{option_map_or}
 use Rattle.flex_base.specs.declared.value.ObjId.{ObjId}
 use Rattle.flex_base.specs.declared.value.Value.{Value}

@@ -1,6 +1,6 @@
 -- The stage: the objects of a play, and what is looked up and changed in them.
 use Rattle.std.specs.Option.{option_map_or}
-use Rattle.std.specs.Prelude.{List, Option, [], length, map, option_and_then, option_map, suc, ℕ}
+use Rattle.std.specs.Prelude.{List, None, Option, Some, [], length, map, option_and_then, option_map, suc, ℕ}
 use Rattle.flex_base.specs.Lists.{changed_entry, entry}
 use Rattle.flex_base.specs.declared.value.ObjId.{ObjId}
 use Rattle.flex_base.specs.declared.value.Value.{Value}
@@ -63,8 +63,12 @@ next_number s = record { 0 = suc (length s.entities) }
 abbrev pub held : Stage → ObjId → List ℕ → Option ObjId
 held s o key = option_and_then object_in_slot (option_and_then (kept key) (entity_at o s))
 
+abbrev pub elements_of : Option Entity → List Value
+elements_of None = []
+elements_of (Some e) = e.object.elements
+
 abbrev pub elements_at : ObjId → Stage → List Value
-elements_at o s = option_map_or (λ (c : Object). c.elements) (object_at o s) []
+elements_at o s = elements_of (entity_at o s)
 
 abbrev pub children_at : ObjId → Stage → List ObjId
 children_at o s = option_map_or (λ (c : Object). c.children) (object_at o s) []
