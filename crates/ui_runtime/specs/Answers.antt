@@ -1,5 +1,6 @@
 -- What the calls of a stage answer, and what they leave. After want of memory it holds nothing, and wants memory at each later call.
-use Rattle.std.specs.Prelude.{Err, None, Ok, Option, Result, Some, ⊤, ◌≡◌}
+use Rattle.std.specs.Prelude.{Err, None, Ok, Option, Result, Some, option_map, ⊤, ◌≡◌}
+use Rattle.flex_base.specs.declared.memory.NoMemory.{NoMemory}
 use Rattle.flex_base.specs.declared.outcome.RunRefusal.{RunRefusal}
 use Rattle.flex_base.specs.declared.outcome.RunRefusal.TheVariants as refusal
 use Rattle.flex_base.specs.declared.outcome.Stop.{Stop}
@@ -36,3 +37,15 @@ asked nothing f (Some s) = f s
 abbrev pub kept_unless_refused : {A : Type 0} → Result A RunRefusal → Stage → Option Stage
 kept_unless_refused (Err refusal.NoMemory) s = None
 kept_unless_refused _ s = Some s
+
+-- what a call does to a stage that wants memory and never stops
+abbrev pub Becomes : Option Stage → (Stage → Stage) → Result (Unit {0}) NoMemory → Option Stage → Type 0
+Becomes (Some s) f (Ok _) after = after ≡ Some (f s)
+Becomes None f (Ok _) after = ⊥
+Becomes _ f (Err _) after = after ≡ None
+
+-- what a call gives that wants memory and leaves the stage alone
+abbrev pub Gives : {A : Type 0} → Option Stage → (Stage → A) → Result A NoMemory → Type 0
+Gives (Some s) f (Ok v) = v ≡ f s
+Gives None f (Ok v) = ⊥
+Gives _ f (Err _) = ⊤

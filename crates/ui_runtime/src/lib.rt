@@ -6,12 +6,20 @@
 #![tactic(auto)]
 
 mod arrays;
+mod children;
+mod documents;
+mod keeping;
 mod making;
 mod objects;
+mod placing;
 mod reading;
 mod stage;
 mod state;
+mod states;
 #[cfg(test)]
 mod tests;
+mod tree;
 
+pub use children::Placed;
 pub use stage::Stage;
+pub use states::Change;
