@@ -39,13 +39,13 @@ kept_unless_refused (Err refusal.NoMemory) s = None
 kept_unless_refused _ s = Some s
 
 -- what a call does to a stage that wants memory and never stops
-abbrev pub Becomes : Option Stage → (Stage → Stage) → Result (Unit {0}) NoMemory → Option Stage → Type 0
-Becomes (Some s) f (Ok _) after = after ≡ Some (f s)
-Becomes None f (Ok _) after = ⊥
-Becomes _ f (Err _) after = after ≡ None
+abbrev pub Changes : Option Stage → (Stage → Stage) → Result (Unit {0}) NoMemory → Option Stage → Type 0
+Changes (Some s) f (Ok _) after = after ≡ Some (f s)
+Changes None f (Ok _) after = ⊥
+Changes _ f (Err _) after = after ≡ None
 
 -- what a call gives that wants memory and leaves the stage alone
-abbrev pub Gives : {A : Type 0} → Option Stage → (Stage → A) → Result A NoMemory → Type 0
-Gives (Some s) f (Ok v) = v ≡ f s
-Gives None f (Ok v) = ⊥
-Gives _ f (Err _) = ⊤
+abbrev pub Tells : {A : Type 0} → Option Stage → (Stage → A) → Result A NoMemory → Type 0
+Tells (Some s) f (Ok v) = v ≡ f s
+Tells None f (Ok v) = ⊥
+Tells _ f (Err _) = ⊤

@@ -2,7 +2,7 @@
 
 ghost use Rattle.std.specs.Prelude.{◌≡◌, None, option_and_then, option_map};
 ghost use Rattle.flex_world.specs.Objects.{parent_of};
-ghost use Rattle.ui_runtime.specs.Answers.{Does, Gives, asked};
+ghost use Rattle.ui_runtime.specs.Answers.{Does, Tells, asked};
 ghost use Rattle.ui_runtime.specs.Stage.{object_at};
 ghost use Rattle.ui_runtime.specs.Tree.{child, child_count, path, places, spot_in, taken_out};
 
@@ -43,7 +43,7 @@ impl Stage {
 
     /// An object, its parent, that one's parent, and so on. It makes a list of these alone.
     pub fn path_of(&self, alloc: Global, target: ObjId) -> Result<Path, NoMemory>
-        ensures { Gives self.now (path target) result }
+        ensures { Tells self.now (path target) result }
     {
         match &self.state {
             Some(state) => state.path_of(alloc, target),

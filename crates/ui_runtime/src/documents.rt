@@ -1,7 +1,7 @@
 // Documents and their bindings.
 
 ghost use Rattle.std.specs.Prelude.{◌≡◌, [], ◌∷◌, OnOk, false, option_map};
-ghost use Rattle.ui_runtime.specs.Answers.{Becomes, asked};
+ghost use Rattle.ui_runtime.specs.Answers.{Changes, asked};
 ghost use Rattle.ui_runtime.specs.Documents.{binds, closes, is_enabled, is_open, opens, watching};
 
 use crate::stage::Stage;
@@ -33,7 +33,7 @@ impl Stage {
     /// Enables a binding of a document, and watches its chains. After want of memory the stage
     /// holds nothing.
     pub fn bind(&mut self, document: ObjId, binding: u32, chains: &Chains) -> Result<(), NoMemory>
-        ensures { Becomes self.old (binds document binding chains.now) result self.new }
+        ensures { Changes self.old (binds document binding chains.now) result self.new }
     {
         let mut state = self.state.take().ok_or(NoMemory)?;
         state.watch_all(document, binding, chains)?;
@@ -44,7 +44,7 @@ impl Stage {
 
     /// A run of a binding of a document begins. After want of memory the stage holds nothing.
     pub fn open(&mut self, document: ObjId, binding: u32) -> Result<(), NoMemory>
-        ensures { Becomes self.old (opens document binding) result self.new }
+        ensures { Changes self.old (opens document binding) result self.new }
     {
         let mut state = self.state.take().ok_or(NoMemory)?;
         state.objects.open(document, binding)?;

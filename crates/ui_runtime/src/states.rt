@@ -3,7 +3,7 @@
 ghost use Rattle.std.specs.Option.{option_copied};
 ghost use Rattle.std.specs.Prelude.{◌≡◌, None, false, is_some, option_map};
 ghost use Rattle.flex_objects.specs.Entities.{is_among};
-ghost use Rattle.ui_runtime.specs.Answers.{Becomes, Does, Steps, asked};
+ghost use Rattle.ui_runtime.specs.Answers.{Changes, Does, Steps, asked};
 ghost use Rattle.ui_runtime.specs.Documents.{adds_state, begins_first, first_state, has_state, is_current, is_text, keeping_at, kept_name, over, requests, waits};
 
 use crate::stage::Stage;
@@ -54,7 +54,7 @@ impl Stage {
     /// Registers a state of a document behind the others. After want of memory the stage holds
     /// nothing.
     pub fn add_state(&mut self, document: ObjId, name: &Text) -> Result<(), NoMemory>
-        ensures { Becomes self.old (adds_state document name.now) result self.new }
+        ensures { Changes self.old (adds_state document name.now) result self.new }
     {
         let mut state = self.state.take().ok_or(NoMemory)?;
         state.objects.add_state(document, name.clone()?)?;
