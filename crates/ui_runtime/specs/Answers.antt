@@ -23,6 +23,12 @@ Does before f (Err refusal.NoMemory) after = after ≡ None
 Does (Some s) f answer (Some after) = Steps s (f s) answer after
 Does _ f answer after = ⊥
 
+-- the same to any stage, where it gives nothing
+abbrev pub Becomes : Option Stage → (Stage → Result Stage Stop) → Result (Unit {0}) RunRefusal → Option Stage → Type 0
+Becomes before f (Err refusal.NoMemory) after = after ≡ None
+Becomes (Some s) f answer (Some after) = Comes s (f s) answer after
+Becomes _ f answer after = ⊥
+
 -- what a call that takes no memory does to a stage, unless it stops
 abbrev pub Pays : Stage → Result Stage Stop → Result (Unit {0}) Stop → Stage → Type 0
 Pays s paid (Ok _) after = paid ≡ Ok after
