@@ -60,8 +60,11 @@ abbrev pub next_number : Stage → ObjId
 next_number s = record { 0 = suc (length s.entities) }
 
 -- the object in the slot of a key, hidden or not
+abbrev pub held_in : List Entity → ObjId → List ℕ → Option ObjId
+held_in entities o key = option_and_then (λ e. option_and_then object_in_slot (kept key e)) (entry entities o.0)
+
 abbrev pub held : Stage → ObjId → List ℕ → Option ObjId
-held s o key = option_and_then object_in_slot (option_and_then (kept key) (entity_at o s))
+held s o key = held_in s.entities o key
 
 abbrev pub elements_of : Option Entity → List Value
 elements_of None = []

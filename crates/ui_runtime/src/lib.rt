@@ -13,5 +13,7 @@ mod stage;
 mod state;
 #[cfg(test)]
 mod tests;
+mod writing;
 
 pub use stage::Stage;
+pub use writing::Written;
