@@ -1,5 +1,6 @@
 -- What the calls of a stage answer, and what they leave. After want of memory it holds nothing, and wants memory at each later call.
 use Rattle.std.specs.Prelude.{Err, None, Ok, Option, Result, Some, ⊤, ◌≡◌}
+use Rattle.flex_base.specs.declared.memory.NoMemory.{NoMemory}
 use Rattle.flex_base.specs.declared.outcome.RunRefusal.{RunRefusal}
 use Rattle.flex_base.specs.declared.outcome.RunRefusal.TheVariants as refusal
 use Rattle.flex_base.specs.declared.outcome.Stop.{Stop}
@@ -28,6 +29,12 @@ abbrev pub Becomes : Option Stage → (Stage → Result Stage Stop) → Result (
 Becomes before f (Err refusal.NoMemory) after = after ≡ None
 Becomes (Some s) f answer (Some after) = Comes s (f s) answer after
 Becomes _ f answer after = ⊥
+
+-- what a call that doesn't stop does to any stage
+abbrev pub Gives : {A : Type 0} → Option Stage → (Stage → A × Stage) → Result A NoMemory → Option Stage → Type 0
+Gives before f (Err _) after = after ≡ None
+Gives (Some s) f (Ok v) (Some after) = f s ≡ (v, after)
+Gives _ f answer after = ⊥
 
 -- what a call that takes no memory does to a stage, unless it stops
 abbrev pub Pays : Stage → Result Stage Stop → Result (Unit {0}) Stop → Stage → Type 0

@@ -6,6 +6,7 @@
 #![tactic(auto)]
 
 mod arrays;
+mod events;
 mod making;
 mod objects;
 mod reading;
