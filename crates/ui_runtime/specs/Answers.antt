@@ -30,10 +30,15 @@ Becomes before f (Err refusal.NoMemory) after = after ≡ None
 Becomes (Some s) f answer (Some after) = Comes s (f s) answer after
 Becomes _ f answer after = ⊥
 
--- what a call that doesn't stop does to any stage
+-- what a call that doesn't stop does to a stage that has memory
+abbrev pub Hands : {A : Type 0} → A × Stage → Result A NoMemory → Stage → Type 0
+Hands done (Ok v) after = done ≡ (v, after)
+Hands done (Err _) after = ⊤
+
+-- and to any stage
 abbrev pub Gives : {A : Type 0} → Option Stage → (Stage → A × Stage) → Result A NoMemory → Option Stage → Type 0
 Gives before f (Err _) after = after ≡ None
-Gives (Some s) f (Ok v) (Some after) = f s ≡ (v, after)
+Gives (Some s) f answer (Some after) = Hands (f s) answer after
 Gives _ f answer after = ⊥
 
 -- what a call that takes no memory does to a stage, unless it stops
@@ -49,3 +54,7 @@ asked nothing f (Some s) = f s
 abbrev pub kept_unless_refused : {A : Type 0} → Result A RunRefusal → Stage → Option Stage
 kept_unless_refused (Err refusal.NoMemory) s = None
 kept_unless_refused _ s = Some s
+
+abbrev pub kept_if_given : {A : Type 0} → Result A NoMemory → Stage → Option Stage
+kept_if_given (Err _) s = None
+kept_if_given (Ok _) s = Some s

@@ -1,6 +1,6 @@
 -- Events and their listeners.
 use Rattle.std.specs.Option.{option_map_or}
-use Rattle.std.specs.Prelude.{Bool, List, Option, [], codes, false, if◌then◌else◌, option_map, ℕ, ℤ}
+use Rattle.std.specs.Prelude.{Bool, List, Option, codes, false, if◌then◌else◌, option_map, ℕ, ℤ}
 use Rattle.flex_base.specs.declared.value.ObjId.{ObjId}
 use Rattle.flex_base.specs.declared.value.Value.{Value}
 use Rattle.flex_base.specs.declared.value.Value.TheVariants as value
@@ -9,7 +9,7 @@ use Rattle.event_flow.specs.declared.listeners.Addition.{Addition}
 use Rattle.event_flow.specs.declared.listeners.Removal.{Removal}
 use Rattle.flex_world.specs.Events.{closed_delivery, is_heard, opened_delivery, prevented_now}
 use Rattle.flex_world.specs.Objects.{Delivery, Object, Registration, count, is_true, property, with_value}
-use Rattle.ui_runtime.specs.Stage.{Stage, change, object_at}
+use Rattle.ui_runtime.specs.Stage.{Stage, change, listeners_at, object_at}
 
 abbrev pub with_property : List ℕ → Value → Object → Object
 with_property key v c = record c { fields = with_value key v c.fields }
@@ -63,10 +63,6 @@ ended e s = change e closed s
 -- what an event's marks become: it is stopped, stopped at once, or prevented
 abbrev pub marked : (Delivery → Delivery) → ObjId → Stage → Stage
 marked f e s = change e (with_delivery f) s
-
--- the listeners of a node, in order of registration
-abbrev pub listeners_at : ObjId → Stage → List Registration
-listeners_at node s = option_map_or (λ (c : Object). c.listeners) (object_at node s) []
 
 abbrev pub with_listeners : (List Registration → List Registration) → Object → Object
 with_listeners f c = record c { listeners = f c.listeners }

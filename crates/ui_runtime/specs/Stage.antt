@@ -4,7 +4,7 @@ use Rattle.std.specs.Prelude.{List, None, Option, Some, [], length, map, option_
 use Rattle.flex_base.specs.Lists.{changed_entry, entry}
 use Rattle.flex_base.specs.declared.value.ObjId.{ObjId}
 use Rattle.flex_base.specs.declared.value.Value.{Value}
-use Rattle.flex_world.specs.Objects.{Object, object_in_slot}
+use Rattle.flex_world.specs.Objects.{Object, Registration, object_in_slot}
 use Rattle.flex_objects.specs.Entities.{Entity, Inside, kept}
 use Rattle.watch_table.specs.declared.watch.Watched.{Watched}
 
@@ -72,6 +72,14 @@ elements_of (Some e) = e.object.elements
 
 abbrev pub elements_at : ObjId → Stage → List Value
 elements_at o s = elements_of (entity_at o s)
+
+abbrev pub listeners_of : Option Entity → List Registration
+listeners_of None = []
+listeners_of (Some e) = e.object.listeners
+
+-- the listeners of a node, in order of registration
+abbrev pub listeners_at : ObjId → Stage → List Registration
+listeners_at node s = listeners_of (entity_at node s)
 
 abbrev pub children_at : ObjId → Stage → List ObjId
 children_at o s = option_map_or (λ (c : Object). c.children) (object_at o s) []

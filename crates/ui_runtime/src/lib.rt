@@ -7,6 +7,7 @@
 
 mod arrays;
 mod events;
+mod listening;
 mod making;
 mod objects;
 mod reading;
