@@ -1,10 +1,10 @@
 // What is kept for an object.
 
 ghost use Rattle.std.specs.Option.{option_copied};
-ghost use Rattle.std.specs.Prelude.{◌≡◌, IfOk, None, option_map};
+ghost use Rattle.std.specs.Prelude.{◌≡◌, IfOk, None, option_and_then, option_map};
 ghost use Rattle.flex_world.specs.Kinds.{class_of};
-ghost use Rattle.flex_world.specs.Objects.{is_array, object_class};
-ghost use Rattle.flex_objects.specs.Entities.{added_to, after_write_in, computed, kind_of, new_array, new_entity, new_instance, value_of, stored_in};
+ghost use Rattle.flex_world.specs.Objects.{is_array, object_class, object_in_slot};
+ghost use Rattle.flex_objects.specs.Entities.{added_to, after_write_in, computed, kept, kind_of, new_array, new_entity, new_instance, value_of, stored_in};
 
 use crate::children::Children;
 use crate::delivery::Delivery;
@@ -230,6 +230,17 @@ impl Entity {
             "parent" => Some(self.parent.value()),
             "numElements" => Some(self.children.count()),
             _ => None,
+        }
+    }
+
+    /// The object in the variable or id of a key, hidden or not, if it holds one.
+    pub fn object(&self, key: &str) -> Option<ObjId>
+        ensures { result ≡ option_and_then object_in_slot (kept key.now self.now) }
+    {
+        if self.fields.get(key).is_some() {
+            self.fields.object(key)
+        } else {
+            self.hidden.object(key)
         }
     }
 

@@ -7,8 +7,10 @@
 
 mod arrays;
 mod children;
+mod document_changes;
 mod documents;
-mod keeping;
+mod events;
+mod listening;
 mod making;
 mod objects;
 mod placing;
@@ -19,7 +21,9 @@ mod states;
 #[cfg(test)]
 mod tests;
 mod tree;
+mod writing;
 
 pub use children::Placed;
 pub use stage::Stage;
 pub use states::Change;
+pub use writing::Written;
