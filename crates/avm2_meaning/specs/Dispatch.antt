@@ -48,8 +48,8 @@ arrive d a rest h =
     goes_on (Native.Dispatches (record d { at = a; arrivals = rest; listeners = hearers d.kind a.phase node.listeners }))
     (on_stage (at_node d.event a.node (phase_number a.phase)) h))
 
-abbrev pub with_listeners : Dispatch → List Listener → Native
-with_listeners d listeners = Native.Dispatches (record d { listeners = listeners })
+abbrev pub with_hearers : Dispatch → List Listener → Native
+with_hearers d listeners = Native.Dispatches (record d { listeners = listeners })
 
 module _ (p : Program) where
   -- a listener hears the event once it has started
@@ -60,7 +60,7 @@ module _ (p : Program) where
   -- a listener is called with the event, which is converted to the class of its parameter before
   abbrev pub hear : Dispatch → Listener → List Listener → Heap → Result (Acted Native)
   hear d l rest h =
-      bind (prepare p l.method (ref d.event ∷ []) h) (λ arguments h1. Goes (acted (hearing_call d l arguments) (with_listeners d rest)) h1)
+      bind (prepare p l.method (ref d.event ∷ []) h) (λ arguments h1. Goes (acted (hearing_call d l arguments) (with_hearers d rest)) h1)
 
   -- what remains at the node, and then the nodes that follow
   abbrev pub deliver : Dispatch → Delivery → List Listener → List Arrival → Heap → Result (Acted Native)

@@ -5,7 +5,8 @@ use Rattle.flex_base.specs.declared.record.TraceItem.{TraceItem}
 use Rattle.flex_base.specs.declared.record.TraceItem.TheVariants as trace
 use Rattle.flex_base.specs.declared.value.ObjId.{ObjId}
 use Rattle.flex_world.specs.Objects.{Spot}
-use Rattle.ui_runtime.specs.Tree.{Placed, child, places, taken_out}
+use Rattle.ui_runtime.specs.Tree.{child, places, taken_out}
+use Rattle.ui_runtime.specs.declared.children.Placed.{Placed}
 use Rattle.avm2_meaning.specs.Effects.{Acted, Effect, Next, acted, closes, effect, opens, recorded}
 use Rattle.avm2_meaning.specs.Frames.{Adding, Native}
 use Rattle.avm2_meaning.specs.Heap.{Heap, on_stage}

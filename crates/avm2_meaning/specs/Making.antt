@@ -14,7 +14,7 @@ use Rattle.flex_base.specs.declared.value.Value.TheVariants as value
 use Rattle.flex_objects.specs.Entities.{Entity, Shape, new_array as empty_array}
 use Rattle.flex_world.specs.Classes.{Class, StaticType, is_event}
 use Rattle.flex_world.specs.Conversions.{constructor_parameters}
-use Rattle.ui_runtime.specs.Events.{initialised}
+use Rattle.ui_runtime.specs.Events.{initialises}
 use Rattle.ui_runtime.specs.Making.{makes, pays, takes_number}
 use Rattle.ui_runtime.specs.Stage.{with_object}
 use Rattle.avm2_meaning.specs.Calls.{call_of, prepare}
@@ -37,12 +37,9 @@ new_array elements h = staged h (and_then (pays (1 + length elements) h.stage) (
 abbrev pub allocate_as : Shape → Heap → Result ObjId
 allocate_as shape h = staged h (makes shape h.stage)
 
-abbrev pub set_event : ObjId → Value → Value → Value → Heap → Heap
-set_event e kind bubbles cancelable h = on_stage (initialised e kind bubbles cancelable) h
-
 -- the type, and whether it bubbles and can be cancelled
 abbrev pub begin_event : ObjId → List Value → Heap → Result (Unit {0})
-begin_event e (kind ∷ bubbles ∷ cancelable ∷ []) h = done (set_event e kind bubbles cancelable h)
+begin_event e (value.Text kind ∷ value.Bool bubbles ∷ value.Bool cancelable ∷ []) h = done (on_stage (initialises e kind bubbles cancelable) h)
 begin_event e _ h = done h
 
 abbrev pub lacks_type : List Value → Bool
@@ -93,4 +90,4 @@ module _ (p : Program) where
   abbrev pub make_event : Event → Heap → Result ObjId
   make_event event h =
       bind (allocate_as (native_shape p event.row.class) h) (λ e h1.
-      Goes e (set_event e (value.Text event.name) (value.Bool event.row.bubbles) (value.Bool event.row.cancelable) h1))
+      Goes e (on_stage (initialises e event.name event.row.bubbles event.row.cancelable) h1))

@@ -1,5 +1,5 @@
 -- The methods of the catalog, and `trace`.
-use Rattle.std.specs.Prelude.{Bool, List, None, Option, Some, [], codes, false, ℕ, ◌∷◌}
+use Rattle.std.specs.Prelude.{Bool, List, None, Option, Some, [], codes, false, ℕ, ℤ, ◌∷◌}
 use Rattle.avm2_program.specs.Program.{Program}
 use Rattle.component_catalog.specs.Methods.{parameters_of}
 use Rattle.component_catalog.specs.declared.class.NativeClass.TheVariants as native
@@ -12,11 +12,11 @@ use Rattle.flex_base.specs.declared.record.TraceItem.TheVariants as trace
 use Rattle.flex_base.specs.declared.value.ObjId.{ObjId}
 use Rattle.flex_base.specs.declared.value.Value.{Value}
 use Rattle.flex_base.specs.declared.value.Value.TheVariants as value
-use Rattle.flex_world.specs.Events.{delivery_stopped_at_once, is_registered, prevented_delivery, prevented_now, registration, stopped_delivery, while_open}
+use Rattle.flex_world.specs.Events.{delivery_stopped_at_once, is_registered, prevented_delivery, prevented_now, stopped_delivery, while_open}
 use Rattle.flex_world.specs.Objects.{Delivery, Object, property}
 use Rattle.flex_world.specs.Operators.{made_text, spaced_text}
-use Rattle.ui_runtime.specs.Events.{deaf, listening, marked}
-use Rattle.ui_runtime.specs.Stage.{change}
+use Rattle.ui_runtime.specs.Events.{listens, marked, unlistens}
+use Rattle.ui_runtime.specs.Stage.{Stage}
 use Rattle.ui_runtime.specs.Tree.{child}
 use Rattle.avm2_meaning.specs.Classes.{is_container_object, is_event_object, is_of}
 use Rattle.avm2_meaning.specs.Conversions.{native_arguments, object_number}
@@ -40,14 +40,17 @@ object_given (value.Ref o) h = Goes o h
 object_given value.Null h = stops stop.NullReference h
 object_given _ h = lacks h
 
+abbrev pub registered_at : ObjId → List ℕ → ObjId × ℕ → Bool → ℤ → Stage → Stage
+registered_at node kind l capture priority s = (listens node kind l capture priority s).1
+
 abbrev pub add_listener : ObjId → List Value → Heap → Result Reply
 add_listener node (kind ∷ value.Listener o m ∷ value.Bool capture ∷ value.Int priority ∷ []) h =
-    bind (type_given kind h) (λ event h1. gives_nothing (on_stage (change node (listening (registration event o m capture priority))) h1))
+    bind (type_given kind h) (λ event h1. gives_nothing (on_stage (registered_at node event (o, m) capture priority) h1))
 add_listener node _ h = lacks h
 
 abbrev pub remove_listener : ObjId → List Value → Heap → Result Reply
 remove_listener node (kind ∷ value.Listener o m ∷ value.Bool capture ∷ []) h =
-    bind (type_given kind h) (λ event h1. gives_nothing (on_stage (change node (deaf event o m capture)) h1))
+    bind (type_given kind h) (λ event h1. gives_nothing (on_stage (unlistens node event (o, m) capture) h1))
 remove_listener node _ h = lacks h
 
 abbrev pub has_listener : ObjId → List Value → Heap → Result Reply

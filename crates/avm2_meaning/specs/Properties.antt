@@ -13,7 +13,9 @@ use Rattle.flex_base.specs.declared.value.Value.TheVariants as value
 use Rattle.flex_world.specs.Classes.{StaticType}
 use Rattle.flex_world.specs.Objects.{Field, Watcher, can_be_written, count, field_named, is_state_field, watcher}
 use Rattle.ui_runtime.specs.Arrays.{array_length}
-use Rattle.ui_runtime.specs.Properties.{Changed, Equal, Silent, Written, reads, writes}
+use Rattle.ui_runtime.specs.Properties.{reads, writes}
+use Rattle.ui_runtime.specs.declared.writing.Written.{Written}
+use Rattle.ui_runtime.specs.declared.writing.Written.TheVariants.{Changed, Equal, Silent}
 use Rattle.avm2_meaning.specs.Conversions.{convert}
 use Rattle.avm2_meaning.specs.Effects.{Effect, Next, effect, nothing, silent}
 use Rattle.avm2_meaning.specs.Frames.{Native}

@@ -6,7 +6,7 @@ use Rattle.flex_base.specs.declared.value.ObjId.{ObjId}
 use Rattle.flex_base.specs.declared.value.Value.TheVariants as value
 use Rattle.flex_objects.specs.Entities.{EnabledBinding, Inside, RegisteredState, listener}
 use Rattle.flex_world.specs.Objects.{Listener, Object, Spot, watcher}
-use Rattle.ui_runtime.specs.Documents.{begins, begins_states, binding_numbered, binds, first_state, registers, state_named}
+use Rattle.ui_runtime.specs.Documents.{begins_first, binding_numbered, binds, first_state, registers, state_named}
 use Rattle.ui_runtime.specs.Tree.{child}
 use Rattle.avm2_meaning.specs.Bindings.{start_alone}
 use Rattle.avm2_meaning.specs.Classes.{is_component_object, is_container_object, is_document}
@@ -102,11 +102,11 @@ enable_binding document i _ h = faults fault.WrongCount h
 -- without states none is entered
 abbrev pub enter_first : ObjId → Option (List ℕ) → Heap → Result Effect
 enter_first document None h = nothing h
-enter_first document (Some name) h = opens (Native.Changes (change_to document name first_steps)) (on_stage (begins (Some name) document) h)
+enter_first document (Some name) h = opens (Native.Changes (change_to document name first_steps)) h
 
 abbrev pub begin_document : ObjId → Inside → List Operand → Heap → Result Effect
 begin_document document i [] h =
-    bind (test fault.WrongKind (not i.begun) h) (λ _ h1. enter_first document (first_state document h1.stage) (on_stage (begins_states document) h1))
+    bind (test fault.WrongKind (not i.begun) h) (λ _ h1. enter_first document (first_state document h1.stage) (on_stage (begins_first document) h1))
 begin_document document i _ h = faults fault.WrongCount h
 
 abbrev pub run_binding : ObjId → List Operand → Heap → Result Effect

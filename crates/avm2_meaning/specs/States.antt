@@ -4,8 +4,10 @@ use Rattle.flex_base.specs.declared.outcome.Stop.TheVariants as stop
 use Rattle.flex_base.specs.declared.value.ObjId.{ObjId}
 use Rattle.flex_base.specs.declared.value.Value.{Value}
 use Rattle.flex_base.specs.declared.value.Value.TheVariants as value
-use Rattle.ui_runtime.specs.Documents.{Begin, Change as Requested, kept_name, over, requests}
+use Rattle.ui_runtime.specs.Documents.{kept_name, over, requests}
 use Rattle.ui_runtime.specs.Stage.{change}
+use Rattle.ui_runtime.specs.declared.states.Change.{Change as Requested}
+use Rattle.ui_runtime.specs.declared.states.Change.TheVariants.{Begin}
 use Rattle.avm2_meaning.specs.Effects.{Acted, Effect, in_place, nothing, opens}
 use Rattle.avm2_meaning.specs.Frames.{Change, ChangeStep, Native}
 use Rattle.avm2_meaning.specs.Heap.{Heap, on_stage}

@@ -1,11 +1,12 @@
 -- Fields that are filled with values.
 use Rattle.std.proofs.Common.{List, [], ◌∷◌, ◌≡◌, ◌∙◌, Bool, true, false, map, refl, ap, sym, subst, cond, length, ℕ, ◌≤◌, ◌+◌, ◌++◌, take, zero, suc, arith}
 use Rattle.std.proofs.lemmas.List.{length-append}
-use Rattle.std.specs.Prelude.{None, Option, Some, option_map, slice_get, slice_set}
+use Rattle.std.specs.Prelude.{None, Option, Some, option_and_then, option_map, slice_get, slice_set}
 use Rattle.std.specs.Str.{bytes_eq}
 use Rattle.flex_base.specs.Lists.{changed_at, one_later}
+use Rattle.flex_base.specs.Value.{ref_of}
 use Rattle.flex_base.specs.declared.value.Value.{Value}
-use Rattle.flex_world.specs.Objects.{Field, field_named, with_value}
+use Rattle.flex_world.specs.Objects.{Field, field_named, object_in_slot, with_value}
 use Rattle.flex_world.specs.Making.{slots}
 use Rattle.flex_objects.specs.Properties.{filled, holding, is_slot_in, is_watched, place_of}
 use Rattle.flex_objects.proofs.Positions.{one_of, take_step}
@@ -90,6 +91,23 @@ watched_alike key (f ∷ fields) (v ∷ values) e = by (watched_alike key fields
         → (b : Bool) → is_watched (cond b (Some (holding v f)) (field_named key (filled fields values))) ≡ is_watched (cond b (Some f) (field_named key fields))
     by rest true = refl
     by rest false = rest
+
+-- and so is whether it is a variable or an id
+pub slots_alike : (fields : List Field) (values : List Value) (n : ℕ)
+    → length values ≡ length fields → is_slot_in (slice_get (filled fields values) n) ≡ is_slot_in (slice_get fields n)
+slots_alike [] values n e = refl
+slots_alike (f ∷ fields) [] n e = absurd (cc)
+slots_alike (f ∷ fields) (v ∷ values) zero e = refl
+slots_alike (f ∷ fields) (v ∷ values) (suc n) e = slots_alike fields values n (omega (arith, e))
+
+-- the object in a variable or an id is that of its value, and there is none in another property
+pub slot_object : (o : Option Field) → is_slot_in o ≡ true → option_and_then ref_of (option_map (λ (f : Field). f.value) o) ≡ option_and_then object_in_slot o
+slot_object None is = refl
+slot_object (Some f) is = ap (λ b. cond b (ref_of f.value) None) (sym is)
+
+pub no_slot_object : (o : Option Field) → is_slot_in o ≡ false → None ≡ option_and_then object_in_slot o
+no_slot_object None is = refl
+no_slot_object (Some f) is = ap (λ b. cond b (ref_of f.value) None) (sym is)
 
 pub filled_own : (fields : List Field) → filled fields (map (λ (f : Field). f.value) fields) ≡ fields
 filled_own [] = refl

@@ -1,10 +1,10 @@
 // What is kept for an object.
 
 ghost use Rattle.std.specs.Option.{option_copied};
-ghost use Rattle.std.specs.Prelude.{◌≡◌, IfOk, None, option_map};
+ghost use Rattle.std.specs.Prelude.{◌≡◌, IfOk, None, option_and_then, option_map};
 ghost use Rattle.flex_world.specs.Kinds.{class_of};
-ghost use Rattle.flex_world.specs.Objects.{is_array, object_class};
-ghost use Rattle.flex_objects.specs.Entities.{after_write_in, computed, kind_of, new_array, new_entity, new_instance, value_of, stored_in};
+ghost use Rattle.flex_world.specs.Objects.{is_array, object_class, object_in_slot};
+ghost use Rattle.flex_objects.specs.Entities.{added_to, after_write_in, computed, kept, kind_of, new_array, new_entity, new_instance, value_of, stored_in};
 
 use crate::children::Children;
 use crate::delivery::Delivery;
@@ -220,6 +220,18 @@ impl Entity {
         self.computed_value(key)
     }
 
+    /// The object is added to a container, as a declared child where it has a spot there; without
+    /// one it keeps the spot that it has.
+    pub fn join(&mut self, container: ObjId, spot: Option<Spot>)
+        ensures { self.new ≡ added_to container spot self.old }
+    {
+        self.parent = Parent::of(container);
+        self.was_added = true;
+        if let Some(spot) = spot {
+            self.spot = Some(spot);
+        }
+    }
+
     // The value of a property that isn't kept, but is where an object stands or how many children
     // it has.
     fn computed_value(&self, key: &str) -> Option<&Value>
@@ -231,6 +243,17 @@ impl Entity {
             "parent" => Some(self.parent.value()),
             "numElements" => Some(self.children.count()),
             _ => None,
+        }
+    }
+
+    /// The object in the variable or id of a key, hidden or not, if it holds one.
+    pub fn object(&self, key: &str) -> Option<ObjId>
+        ensures { result ≡ option_and_then object_in_slot (kept key.now self.now) }
+    {
+        if self.fields.get(key).is_some() {
+            self.fields.object(key)
+        } else {
+            self.hidden.object(key)
         }
     }
 

@@ -1,13 +1,14 @@
 // The properties of an object with their values.
 
 ghost use Rattle.std.specs.Option.{option_copied};
-ghost use Rattle.std.specs.Prelude.{◌≡◌, [], IfOk, length, option_map, slice_get};
+ghost use Rattle.std.specs.Prelude.{◌≡◌, [], IfOk, length, option_and_then, option_map, slice_get};
 ghost use Rattle.flex_base.specs.Lists.{changed_at};
-ghost use Rattle.flex_world.specs.Objects.{field_named, with_value};
-ghost use Rattle.flex_objects.specs.Properties.{after_write, filled, holding, is_watched, items_of, place_of, stored};
+ghost use Rattle.flex_base.specs.Value.{ref_of};
+ghost use Rattle.flex_world.specs.Objects.{field_named, object_in_slot, with_value};
+ghost use Rattle.flex_objects.specs.Properties.{after_write, filled, holding, is_slot_in, is_watched, items_of, place_of, stored};
 
 use crate::slots::SlotTable;
-use flex_base::{NoMemory, Value, same};
+use flex_base::{NoMemory, ObjId, Value, same};
 use std::alloc::Global;
 use std::marker::Model;
 use std::rc::Rc;
@@ -127,6 +128,38 @@ impl Properties {
         }
     }
 
+    /// The object in the variable or id of a key, if it holds one.
+    pub fn object(&self, key: &str) -> Option<ObjId>
+        ensures { result ≡ option_and_then object_in_slot (field_named key.now self.now) }
+    {
+        match self.place_of(key) {
+            Some(place) => self.object_at(place),
+            None => None,
+        }
+    }
+
+    // The object in the variable or id at a place.
+    #[tactic(auto, using(crate::proofs::Fields::slot_object, crate::proofs::Fields::no_slot_object))]
+    fn object_at(&self, place: usize) -> Option<ObjId>
+        ensures { result ≡ option_and_then object_in_slot (slice_get self.now place) }
+    {
+        if self.is_slot(place) {
+            object_in(self.get_at(place))
+        } else {
+            None
+        }
+    }
+
+    // Whether a variable or an id stands at a place.
+    fn is_slot(&self, place: usize) -> bool
+        ensures { result ≡ is_slot_in (slice_get self.now place) }
+    {
+        match &self.table {
+            Some(table) => table.is_slot(place),
+            None => false,
+        }
+    }
+
     // Whether bindings watch the property of a key.
     fn is_bindable(&self, key: &str) -> bool
         ensures { result ≡ is_watched (field_named key.now self.now) }
@@ -135,6 +168,16 @@ impl Properties {
             Some(table) => table.is_bindable(key),
             None => false,
         }
+    }
+}
+
+// The object that a value refers to.
+fn object_in(value: Option<&Value>) -> Option<ObjId>
+    ensures { result ≡ option_and_then ref_of (option_copied value.entry) }
+{
+    match value {
+        Some(Value::Ref(object)) => Some(*object),
+        _ => None,
     }
 }
 

@@ -123,8 +123,8 @@ impl SlotTable {
         count
     }
 
-    // Whether a variable or an id stands at a place.
-    fn is_slot(&self, place: usize) -> bool
+    /// Whether a variable or an id stands at a place.
+    pub fn is_slot(&self, place: usize) -> bool
         ensures { result ≡ is_slot_in (slice_get self.now place) }
     {
         match self.slots.get_index(place) {

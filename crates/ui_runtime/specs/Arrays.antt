@@ -1,5 +1,5 @@
 -- The elements of arrays.
-use Rattle.std.specs.Prelude.{Err, None, Ok, Option, Result, if◌then◌else◌, length, nat_lt, negsuc, pos, ℕ, ℤ, ◌+◌, ◌==◌}
+use Rattle.std.specs.Prelude.{Err, Ok, Option, Result, if◌then◌else◌, length, nat_lt, negsuc, pos, ℕ, ℤ, ◌==◌}
 use Rattle.flex_base.specs.Value.{and_then}
 use Rattle.flex_base.specs.declared.outcome.Stop.{Stop}
 use Rattle.flex_base.specs.declared.outcome.Stop.TheVariants as stop

@@ -1,12 +1,15 @@
 -- Events and their listeners.
-use Rattle.std.specs.Prelude.{Bool, List, Option, Some, codes, if◌then◌else◌, option_map, unwrap_or, false, true, ℕ, ℤ}
 use Rattle.std.specs.Option.{option_map_or}
+use Rattle.std.specs.Prelude.{Bool, List, Option, codes, false, if◌then◌else◌, option_map, ℕ, ℤ}
 use Rattle.flex_base.specs.declared.value.ObjId.{ObjId}
 use Rattle.flex_base.specs.declared.value.Value.{Value}
 use Rattle.flex_base.specs.declared.value.Value.TheVariants as value
-use Rattle.flex_world.specs.Events.{closed_delivery, opened_delivery, with_registration, without_registration}
+use Rattle.event_flow.specs.Hearing.{addition, heard_at, removal, with_listener, without_listener}
+use Rattle.event_flow.specs.declared.listeners.Addition.{Addition}
+use Rattle.event_flow.specs.declared.listeners.Removal.{Removal}
+use Rattle.flex_world.specs.Events.{closed_delivery, is_heard, opened_delivery, prevented_now}
 use Rattle.flex_world.specs.Objects.{Delivery, Object, Registration, count, is_true, property, with_value}
-use Rattle.ui_runtime.specs.Stage.{Stage, change, object_at}
+use Rattle.ui_runtime.specs.Stage.{Stage, change, listeners_at, object_at}
 
 abbrev pub with_property : List ℕ → Value → Object → Object
 with_property key v c = record c { fields = with_value key v c.fields }
@@ -15,16 +18,29 @@ abbrev pub with_delivery : (Delivery → Delivery) → Object → Object
 with_delivery f c = record c { delivery = f c.delivery }
 
 -- its type, and whether it bubbles and can be cancelled
-abbrev pub initialised : ObjId → Value → Value → Value → Stage → Stage
-initialised e kind bubbles cancelable s =
-    change e (λ c. with_property (codes "cancelable") cancelable (with_property (codes "bubbles") bubbles (with_property (codes "type") kind c))) s
+abbrev pub initialised : List ℕ → Bool → Bool → Object → Object
+initialised kind bubbles cancelable c =
+    with_property (codes "cancelable") (value.Bool cancelable) (with_property (codes "bubbles") (value.Bool bubbles) (with_property (codes "type") (value.Text kind) c))
+
+abbrev pub initialises : ObjId → List ℕ → Bool → Bool → Stage → Stage
+initialises e kind bubbles cancelable s = change e (initialised kind bubbles cancelable) s
+
+-- how far its dispatch has come
+abbrev pub delivery_at : ObjId → Stage → Option Delivery
+delivery_at e s = option_map (λ (c : Object). c.delivery) (object_at e s)
 
 abbrev pub was_dispatched : ObjId → Stage → Bool
-was_dispatched e s = option_map_or (λ (c : Object). c.delivery.dispatched) (object_at e s) false
+was_dispatched e s = option_map_or (λ (d : Delivery). d.dispatched) (delivery_at e s) false
+
+-- whether its default was prevented
+abbrev pub was_prevented : ObjId → Stage → Bool
+was_prevented e s = option_map_or prevented_now (delivery_at e s) false
+
+abbrev pub is_cancelable : Object → Bool
+is_cancelable c = is_true (property c (codes "cancelable"))
 
 abbrev pub opened : ObjId → Object → Object
-opened target c =
-    with_property (codes "target") (value.Ref target) (with_delivery (opened_delivery (is_true (property c (codes "cancelable")))) c)
+opened target c = with_property (codes "target") (value.Ref target) (with_delivery (opened_delivery (is_cancelable c)) c)
 
 -- its dispatch at a target begins, unless it was dispatched before
 abbrev pub started : ObjId → ObjId → Stage → Stage
@@ -37,17 +53,36 @@ arrived node phase c = with_property (codes "eventPhase") (count phase) (with_pr
 abbrev pub at_node : ObjId → ObjId → ℕ → Stage → Stage
 at_node e node phase s = change e (arrived (value.Ref node) phase) s
 
+abbrev pub closed : Object → Object
+closed c = arrived value.Null 0 (with_delivery closed_delivery c)
+
 -- its dispatch is over
 abbrev pub ended : ObjId → Stage → Stage
-ended e s = change e (λ c. arrived value.Null 0 (with_delivery closed_delivery c)) s
+ended e s = change e closed s
 
 -- what an event's marks become: it is stopped, stopped at once, or prevented
 abbrev pub marked : (Delivery → Delivery) → ObjId → Stage → Stage
 marked f e s = change e (with_delivery f) s
 
--- a listener of a node is registered, and removed
-abbrev pub listening : Registration → Object → Object
-listening r c = record c { listeners = with_registration r c.listeners }
+abbrev pub with_listeners : (List Registration → List Registration) → Object → Object
+with_listeners f c = record c { listeners = f c.listeners }
 
-abbrev pub deaf : List ℕ → ObjId → ℕ → Bool → Object → Object
-deaf kind o m capture c = record c { listeners = without_registration kind o m capture c.listeners }
+-- a listener is registered at a node
+abbrev pub listens : ObjId → List ℕ → ObjId × ℕ → Bool → ℤ → Stage → Addition × Stage
+listens node kind l capture priority s =
+    (addition kind l capture (listeners_at node s), change node (with_listeners (with_listener kind l capture priority)) s)
+
+-- and removed
+abbrev pub removed : ObjId → List ℕ → ObjId × ℕ → Bool → Stage → Removal
+removed node kind l capture s = removal kind l capture (listeners_at node s)
+
+abbrev pub unlistens : ObjId → List ℕ → ObjId × ℕ → Bool → Stage → Stage
+unlistens node kind l capture s = change node (with_listeners (without_listener kind l capture)) s
+
+-- those of a node that hear an event of this type in the phase of a number
+abbrev pub hearers_of : ObjId → List ℕ → ℕ → Stage → List (ObjId × ℕ)
+hearers_of node kind phase s = heard_at kind phase (listeners_at node s)
+
+-- whether a node has a listener for events of this type
+abbrev pub has_listener : ObjId → List ℕ → Stage → Bool
+has_listener node kind s = is_heard kind (listeners_at node s)

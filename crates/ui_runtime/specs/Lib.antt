@@ -1,3 +1,4 @@
+pub mod Entries
 pub mod Stage
 pub mod Answers
 pub mod Making

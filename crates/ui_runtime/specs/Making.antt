@@ -1,5 +1,5 @@
 -- Objects and arrays take cells and numbers.
-use Rattle.std.specs.Prelude.{Err, List, Ok, Result, [], if◌then◌else◌, nat_lt, ℕ, ◌+◌, ◌++◌, ◌∷◌}
+use Rattle.std.specs.Prelude.{Err, Ok, Result, [], if◌then◌else◌, nat_lt, ℕ, ◌+◌, ◌++◌, ◌∷◌}
 use Rattle.flex_base.specs.Value.{and_then}
 use Rattle.flex_base.specs.declared.outcome.Stop.{Stop}
 use Rattle.flex_base.specs.declared.outcome.Stop.TheVariants as stop

@@ -10,6 +10,8 @@ use Rattle.flex_objects.specs.declared.properties.Stored.{Stored}
 use Rattle.flex_objects.specs.declared.properties.Stored.TheVariants as stored
 use Rattle.watch_table.specs.Affected.{affected}
 use Rattle.ui_runtime.specs.Stage.{Stage, change_entity, entity_at, held, inside_at, object_at}
+use Rattle.ui_runtime.specs.declared.writing.Written.{Written}
+use Rattle.ui_runtime.specs.declared.writing.Written.TheVariants.{Changed, Equal, Silent}
 
 -- the value of the property of a key, hidden or not
 abbrev pub reads : ObjId → List ℕ → Stage → Option Value
@@ -22,11 +24,6 @@ abbrev pub native_at : ObjId → Stage → Option NativeClass
 native_at o s = option_and_then (λ (i : Inside). i.native) (inside_at o s)
 
 -- what a write comes to: nothing where the value equals the old one by `===`; else it is stored, and the bindings that it affects are told
-pub data Written : Type 0 where
-  Equal : Written
-  Silent : Written
-  Changed : (bindings : List (ObjId × ℕ)) → Written
-
 abbrev pub written_as : ObjId → List ℕ → Option Stored → Stage → Written
 written_as o key (Some stored.Silent) s = Silent
 written_as o key (Some stored.Watched) s = Changed (affected (held s) o key s.watched)

@@ -1,10 +1,9 @@
 -- The stage: the objects of a play, and what is looked up and changed in them.
-use Rattle.std.specs.Option.{option_map_or}
-use Rattle.std.specs.Prelude.{List, Option, [], length, map, option_and_then, option_map, suc, ℕ}
+use Rattle.std.specs.Prelude.{List, None, Option, Some, [], length, map, option_and_then, option_map, suc, ℕ}
 use Rattle.flex_base.specs.Lists.{changed_entry, entry}
 use Rattle.flex_base.specs.declared.value.ObjId.{ObjId}
 use Rattle.flex_base.specs.declared.value.Value.{Value}
-use Rattle.flex_world.specs.Objects.{Object, object_in_slot}
+use Rattle.flex_world.specs.Objects.{Object, Registration, object_in_slot}
 use Rattle.flex_objects.specs.Entities.{Entity, Inside, kept}
 use Rattle.watch_table.specs.declared.watch.Watched.{Watched}
 
@@ -60,11 +59,30 @@ abbrev pub next_number : Stage → ObjId
 next_number s = record { 0 = suc (length s.entities) }
 
 -- the object in the slot of a key, hidden or not
+abbrev pub held_in : List Entity → ObjId → List ℕ → Option ObjId
+held_in entities o key = option_and_then (λ e. option_and_then object_in_slot (kept key e)) (entry entities o.0)
+
 abbrev pub held : Stage → ObjId → List ℕ → Option ObjId
-held s o key = option_and_then object_in_slot (option_and_then (kept key) (entity_at o s))
+held s o key = held_in s.entities o key
+
+abbrev pub elements_of : Option Entity → List Value
+elements_of None = []
+elements_of (Some e) = e.object.elements
 
 abbrev pub elements_at : ObjId → Stage → List Value
-elements_at o s = option_map_or (λ (c : Object). c.elements) (object_at o s) []
+elements_at o s = elements_of (entity_at o s)
+
+abbrev pub listeners_of : Option Entity → List Registration
+listeners_of None = []
+listeners_of (Some e) = e.object.listeners
+
+-- the listeners of a node, in order of registration
+abbrev pub listeners_at : ObjId → Stage → List Registration
+listeners_at node s = listeners_of (entity_at node s)
+
+abbrev pub children_of : Option Entity → List ObjId
+children_of None = []
+children_of (Some e) = e.object.children
 
 abbrev pub children_at : ObjId → Stage → List ObjId
-children_at o s = option_map_or (λ (c : Object). c.children) (object_at o s) []
+children_at o s = children_of (entity_at o s)

@@ -6,12 +6,24 @@
 #![tactic(auto)]
 
 mod arrays;
+mod children;
+mod document_changes;
+mod documents;
+mod events;
+mod listening;
 mod making;
 mod objects;
+mod placing;
 mod reading;
 mod stage;
 mod state;
+mod states;
 #[cfg(test)]
 mod tests;
+mod tree;
+mod writing;
 
+pub use children::Placed;
 pub use stage::Stage;
+pub use states::Change;
+pub use writing::Written;

@@ -55,3 +55,24 @@ impl Objects {
         self.list.push(entity)
     }
 }
+
+impl Objects {
+    ghost use Rattle.std.specs.Borrow.{LendsIf, sem};
+    ghost use Rattle.std.specs.Option.{option_copied_mut};
+    ghost use Rattle.flex_objects.specs.contracts.entity.Entity as entities;
+    ghost use Rattle.ui_runtime.specs.Entries.{with_entry};
+    ghost use Rattle.ui_runtime.specs.contracts.objects.Objects.{the_row};
+
+    // What is kept for the object of a number, to be changed.
+    pub fn get_mut(&mut self, object: ObjId) -> Option<&mut Entity>
+        ensures* lends { sem 𝓛
+            (LendsIf the_row entities.the_row self.entry result
+            (with_entry self.entry.now object.0) self.entry.now) }
+        ensures value { option_copied_mut result ≡ entry self.old object.0 }
+    {
+        match object.0 {
+            0 => None,
+            number => self.list.get_mut(number as usize - 1),
+        }
+    }
+}

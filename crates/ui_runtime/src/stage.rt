@@ -1,11 +1,11 @@
 // The stage.
 
 ghost use Rattle.std.specs.Prelude.{◌≡◌, None, Some};
-ghost use Rattle.ui_runtime.specs.Answers.{kept_unless_refused};
+ghost use Rattle.ui_runtime.specs.Answers.{kept_if_given, kept_unless_refused};
 ghost use Rattle.ui_runtime.specs.Stage.{empty_stage};
 
 use crate::state::State;
-use flex_base::RunRefusal;
+use flex_base::{NoMemory, RunRefusal};
 use std::alloc::Global;
 use std::marker::Model;
 
@@ -49,6 +49,22 @@ impl Stage {
         match &answer {
             Err(RunRefusal::NoMemory) => {}
             _ => self.state = Some(state),
+        }
+        answer
+    }
+
+    // The same for a call that doesn't stop.
+    pub(crate) fn keep_given<T: Drop>(
+        &mut self,
+        state: State,
+        answer: Result<T, NoMemory>,
+    ) -> Result<T, NoMemory>
+        requires { self.old ≡ None }
+        ensures answer { result ≡ answer }
+        ensures after { self.new ≡ kept_if_given answer state }
+    {
+        if answer.is_ok() {
+            self.state = Some(state);
         }
         answer
     }

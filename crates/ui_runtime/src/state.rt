@@ -22,7 +22,7 @@ const OBJECT_COST: u32 = 16;
 #[derive(Drop)]
 pub struct State {
     pub objects: Objects,
-    watch: Watch,
+    pub watch: Watch,
     cells: u32,
     ghost few: { cells ≤ most_cells },
 }

@@ -1,0 +1,154 @@
+// The listeners of nodes.
+
+ghost use Rattle.std.specs.Prelude.{◌≡◌, [], IfOk, Ok, OnOk, false, option_map};
+ghost use Rattle.flex_base.specs.Lists.{changed_entry, entry};
+ghost use Rattle.flex_world.specs.Events.{is_heard};
+ghost use Rattle.event_flow.specs.Hearing.{addition, heard_at, removal, with_listener, without_listener};
+ghost use Rattle.event_flow.specs.declared.listeners.Removal.TheVariants as removal_of;
+ghost use Rattle.ui_runtime.specs.Answers.{Gives, Hands, asked};
+ghost use Rattle.ui_runtime.specs.Events.{has_listener, hearers_of, listens, removed, unlistens, with_listeners};
+ghost use Rattle.ui_runtime.specs.Stage.{listeners_of, with_object};
+
+use crate::objects::Objects;
+use crate::stage::Stage;
+use crate::state::State;
+use event_flow::{Addition, Removal};
+use flex_base::{ListenerList, NoMemory, ObjId, Text};
+use std::alloc::Global;
+
+impl Objects {
+    // Registers a listener at a node.
+    #[tactic(auto, using(crate::proofs::Entries::entry_changed, crate::proofs::Entries::no_entry_changed))]
+    pub fn listen(
+        &mut self,
+        node: ObjId,
+        kind: &Text,
+        listener: (ObjId, u32),
+        capture: bool,
+        priority: i32,
+    ) -> Result<Addition, NoMemory>
+        ensures answer { IfOk result (λ a. a ≡ addition kind.now listener capture (listeners_of (entry self.old node.0))) }
+        ensures after { OnOk result (self.new ≡
+            changed_entry (with_object (with_listeners (with_listener kind.now listener capture priority))) self.old node.0) }
+    {
+        match self.get_mut(node) {
+            Some(entity) => entity.listeners.add(kind, listener, capture, priority),
+            None => Ok(Addition::New),
+        }
+    }
+
+    // Removes a listener of a node.
+    #[tactic(auto, using(crate::proofs::Entries::entry_changed, crate::proofs::Entries::no_entry_changed))]
+    pub fn unlisten(
+        &mut self,
+        node: ObjId,
+        kind: &Text,
+        listener: (ObjId, u32),
+        capture: bool,
+    ) -> Removal
+        ensures answer { result ≡ removal kind.now listener capture (listeners_of (entry self.old node.0)) }
+        ensures after { self.new ≡
+            changed_entry (with_object (with_listeners (without_listener kind.now listener capture))) self.old node.0 }
+    {
+        match self.get_mut(node) {
+            Some(entity) => entity.listeners.remove(kind, listener, capture),
+            None => Removal::Absent,
+        }
+    }
+}
+
+impl State {
+    // Registers a listener at a node.
+    pub fn listen(
+        &mut self,
+        node: ObjId,
+        kind: &Text,
+        listener: (ObjId, u32),
+        capture: bool,
+        priority: i32,
+    ) -> Result<Addition, NoMemory>
+        ensures { Hands (listens node kind.now listener capture priority self.old) result self.new }
+    {
+        self.objects.listen(node, kind, listener, capture, priority)
+    }
+
+    // Removes a listener of a node.
+    pub fn unlisten(
+        &mut self,
+        node: ObjId,
+        kind: &Text,
+        listener: (ObjId, u32),
+        capture: bool,
+    ) -> Removal
+        ensures answer { result ≡ removed node kind.now listener capture self.old }
+        ensures after { self.new ≡ unlistens node kind.now listener capture self.old }
+    {
+        self.objects.unlisten(node, kind, listener, capture)
+    }
+}
+
+impl Stage {
+    /// Registers a listener, an object and the number of its method, at a node for events of a
+    /// type: for the first phase where `capture` is true, and else for the second and the third. A
+    /// second registration of the same type, listener and `capture` is `Kept`, and changes nothing,
+    /// its priority included.
+    pub fn listen(
+        &mut self,
+        node: ObjId,
+        kind: &Text,
+        listener: (ObjId, u32),
+        capture: bool,
+        priority: i32,
+    ) -> Result<Addition, NoMemory>
+        ensures { Gives self.old (listens node kind.now listener capture priority) result self.new }
+    {
+        let mut state = self.state.take().ok_or(NoMemory)?;
+        let addition = state.listen(node, kind, listener, capture, priority);
+        self.keep_given(state, addition)
+    }
+
+    /// Removes a listener of a node: `Absent` exactly where there is none of this type, listener
+    /// and `capture`, and then nothing changes. It takes no memory.
+    pub fn unlisten(
+        &mut self,
+        node: ObjId,
+        kind: &Text,
+        listener: (ObjId, u32),
+        capture: bool,
+    ) -> Removal
+        ensures answer { result ≡ asked removal_of.Absent (removed node kind.now listener capture) self.old }
+        ensures after { self.new ≡ option_map (unlistens node kind.now listener capture) self.old }
+    {
+        match &mut self.state {
+            Some(state) => state.unlisten(node, kind, listener, capture),
+            None => Removal::Absent,
+        }
+    }
+
+    /// The listeners of a node that hear an event of a type in the phase 1, 2 or 3, from high
+    /// priority to low, equal ones in order of registration.
+    pub fn listeners_at(
+        &self,
+        alloc: Global,
+        node: ObjId,
+        kind: &Text,
+        phase: u8,
+    ) -> Result<ListenerList, NoMemory>
+        ensures { IfOk result (λ list. list ≡ asked [] (hearers_of node kind.now phase) self.now) }
+    {
+        match self.entity(node) {
+            Some(entity) => entity.listeners.at_node(alloc, kind, phase),
+            None => Ok(ListenerList::new(alloc)),
+        }
+    }
+
+    /// Whether a node has a listener for events of a type, whatever its phase.
+    pub fn has_listener(&self, node: ObjId, kind: &Text) -> bool
+        ensures { result ≡ asked false (has_listener node kind.now) self.now }
+    {
+        match self.entity(node) {
+            Some(entity) => entity.listeners.has(kind),
+            None => false,
+        }
+    }
+}
