@@ -6,6 +6,8 @@
 #![tactic(auto)]
 
 mod arrays;
+#[cfg(test)]
+mod event_tests;
 mod events;
 mod listening;
 mod making;
@@ -15,6 +17,8 @@ mod stage;
 mod state;
 #[cfg(test)]
 mod tests;
+#[cfg(test)]
+mod value_tests;
 mod writing;
 
 pub use stage::Stage;
