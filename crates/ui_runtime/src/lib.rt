@@ -7,6 +7,8 @@
 
 mod arrays;
 mod children;
+#[cfg(test)]
+mod component_tests;
 mod document_changes;
 mod documents;
 mod events;
