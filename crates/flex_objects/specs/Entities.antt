@@ -7,13 +7,14 @@ use Rattle.component_catalog.specs.Properties.{property_of}
 use Rattle.component_catalog.specs.declared.class.NativeClass.{NativeClass}
 use Rattle.flex_base.specs.declared.value.ObjId.{ObjId}
 use Rattle.flex_base.specs.declared.value.Value.{Value}
+use Rattle.flex_world.specs.Children.{joined_to}
 use Rattle.flex_world.specs.Classes.{Class}
 use Rattle.flex_world.specs.Kinds.{class_of}
 use Rattle.flex_world.specs.declared.kind.Class as declared
 use Rattle.flex_objects.specs.Properties.{after_write, stored}
 use Rattle.flex_objects.specs.declared.properties.Stored.{Stored}
 use Rattle.flex_world.specs.Making.{is_computed, new_object}
-use Rattle.flex_world.specs.Objects.{An_array, Field, Instance_of, Keeping, Kind, Object, computed_property, field_named, without_number}
+use Rattle.flex_world.specs.Objects.{An_array, Field, Instance_of, Keeping, Kind, Object, Spot, computed_property, field_named, without_number}
 
 -- what objects of a class have at first: the properties that the source knows, and those in the namespace of the runtime
 pub record Shape : Type 0 where
@@ -79,6 +80,10 @@ abbrev pub after_write_in : List ℕ → Value → Entity → Entity
 after_write_in key v e =
     if is_some (field_named key e.object.fields) then with_fields (after_write key v e.object.fields) e
     else with_hidden (after_write key v e.inside.hidden) e
+
+-- the object is added to a container, with a new spot or the one that it has
+abbrev pub added_to : ObjId → Option Spot → Entity → Entity
+added_to container spot e = record e { object = joined_to container spot e.object }
 
 -- the element at an index
 abbrev pub element_at : List Value → ℤ → Option Value

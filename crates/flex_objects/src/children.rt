@@ -1,6 +1,6 @@
 // The children of a container.
 
-ghost use Rattle.std.specs.Prelude.{◌≡◌, ◌≤◌, [], OnOk, insert, length};
+ghost use Rattle.std.specs.Prelude.{◌≡◌, ◌≤◌, [], OnOk, insert, length, slice_get};
 ghost use Rattle.flex_world.specs.Children.{child_at, without_child};
 ghost use Rattle.flex_world.specs.Objects.{count};
 
@@ -57,7 +57,13 @@ impl Children {
     pub fn get(&self, place: i32) -> Option<ObjId>
         ensures { result ≡ child_at self.now place }
     {
-        let place = usize::try_from(place).ok()?;
+        self.at(usize::try_from(place).ok()?)
+    }
+
+    /// The same, of a place that is no `int`.
+    pub fn at(&self, place: usize) -> Option<ObjId>
+        ensures { result ≡ slice_get self.now place }
+    {
         self.list.get(place).copied()
     }
 

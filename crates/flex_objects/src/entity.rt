@@ -4,7 +4,7 @@ ghost use Rattle.std.specs.Option.{option_copied};
 ghost use Rattle.std.specs.Prelude.{◌≡◌, IfOk, None, option_and_then, option_map};
 ghost use Rattle.flex_world.specs.Kinds.{class_of};
 ghost use Rattle.flex_world.specs.Objects.{is_array, object_class, object_in_slot};
-ghost use Rattle.flex_objects.specs.Entities.{after_write_in, computed, kept, kind_of, new_array, new_entity, new_instance, value_of, stored_in};
+ghost use Rattle.flex_objects.specs.Entities.{added_to, after_write_in, computed, kept, kind_of, new_array, new_entity, new_instance, value_of, stored_in};
 
 use crate::children::Children;
 use crate::delivery::Delivery;
@@ -205,6 +205,18 @@ impl Entity {
             return Some(value);
         }
         self.computed_value(key)
+    }
+
+    /// The object is added to a container, as a declared child where it has a spot there; without
+    /// one it keeps the spot that it has.
+    pub fn join(&mut self, container: ObjId, spot: Option<Spot>)
+        ensures { self.new ≡ added_to container spot self.old }
+    {
+        self.parent = Parent::of(container);
+        self.was_added = true;
+        if let Some(spot) = spot {
+            self.spot = Some(spot);
+        }
     }
 
     // The value of a property that isn't kept, but is where an object stands or how many children

@@ -1,3 +1,6 @@
 mod Entries
+mod Forerunners
 mod Keeping
+mod Outward
+mod Places
 mod Watching

@@ -58,3 +58,15 @@ kept_unless_refused _ s = Some s
 abbrev pub kept_if_given : {A : Type 0} → Result A NoMemory → Stage → Option Stage
 kept_if_given (Err _) s = None
 kept_if_given (Ok _) s = Some s
+
+-- what a call does to a stage that wants memory and never stops
+abbrev pub Changes : Option Stage → (Stage → Stage) → Result (Unit {0}) NoMemory → Option Stage → Type 0
+Changes (Some s) f (Ok _) after = after ≡ Some (f s)
+Changes None f (Ok _) after = ⊥
+Changes _ f (Err _) after = after ≡ None
+
+-- what a call gives that wants memory and leaves the stage alone
+abbrev pub Tells : {A : Type 0} → Option Stage → (Stage → A) → Result A NoMemory → Type 0
+Tells (Some s) f (Ok v) = v ≡ f s
+Tells None f (Ok v) = ⊥
+Tells _ f (Err _) = ⊤

@@ -2,6 +2,7 @@
 use Rattle.std.specs.List.{fold}
 use Rattle.std.specs.Option.{option_map_or}
 use Rattle.std.specs.Prelude.{Bool, Err, List, None, Ok, Option, Result, Some, [], false, if◌then◌else◌, not, option_and_then, slice_get, ℕ, ◌++◌, ◌||◌, ◌∷◌}
+use Rattle.flex_base.specs.Lists.{changed_entry}
 use Rattle.flex_base.specs.Value.{same}
 use Rattle.flex_base.specs.declared.outcome.Stop.{Stop}
 use Rattle.flex_base.specs.declared.outcome.Stop.TheVariants as stop
@@ -10,19 +11,34 @@ use Rattle.flex_base.specs.declared.value.Value.{Value}
 use Rattle.flex_base.specs.declared.value.Value.TheVariants as value
 use Rattle.flex_world.specs.Making.{keeps_nothing}
 use Rattle.flex_world.specs.Objects.{Keeping, Object, current_state, is_number_among, property}
-use Rattle.flex_objects.specs.Entities.{Inside, begun, ended, is_among, with_enabled, with_kept, with_open, without_open}
+use Rattle.flex_objects.specs.Entities.{Entity, Inside, begun, ended, is_among, with_enabled, with_kept, with_open, without_open}
 use Rattle.watch_table.specs.Affected.{with_chain}
-use Rattle.ui_runtime.specs.Stage.{Stage, change, change_inside, inside_at, object_at}
+use Rattle.ui_runtime.specs.Stage.{Stage, change, change_inside, entity_at, inside_at, object_at, with_object}
+use Rattle.ui_runtime.specs.declared.states.Change.{Change}
+use Rattle.ui_runtime.specs.declared.states.Change.TheVariants.{Begin, Kept, Nothing}
+
+abbrev pub keeping_of : Option Entity → Keeping
+keeping_of None = keeps_nothing
+keeping_of (Some e) = e.object.keeping
 
 abbrev pub keeping_at : ObjId → Stage → Keeping
-keeping_at d s = option_map_or (λ (c : Object). c.keeping) (object_at d s) keeps_nothing
+keeping_at d s = keeping_of (entity_at d s)
+
+abbrev pub with_keeping : (Keeping → Keeping) → Object → Object
+with_keeping f c = record c { keeping = f c.keeping }
+
+abbrev pub keeps_in : (Keeping → Keeping) → ObjId → List Entity → List Entity
+keeps_in f d entities = changed_entry (with_object (with_keeping f)) entities d.0
 
 abbrev pub keeps : (Keeping → Keeping) → ObjId → Stage → Stage
-keeps f d s = change d (λ c. record c { keeping = f c.keeping }) s
+keeps f d s = change d (with_keeping f) s
 
 -- a binding is enabled, and its chains are watched
+abbrev pub watching : ObjId → ℕ → List (List (List ℕ)) → Stage → Stage
+watching d n chains s = record s { watched = fold (λ ws chain. with_chain d n chain ws) s.watched chains }
+
 abbrev pub binds : ObjId → ℕ → List (List (List ℕ)) → Stage → Stage
-binds d n chains s = keeps (with_enabled n) d (record s { watched = fold (λ ws chain. with_chain d n chain ws) s.watched chains })
+binds d n chains s = keeps (with_enabled n) d (watching d n chains s)
 
 abbrev pub is_enabled : ObjId → ℕ → Stage → Bool
 is_enabled d n s = is_number_among n (keeping_at d s).enabled
@@ -40,8 +56,11 @@ closes d n s = keeps (without_open n) d s
 abbrev pub states_at : ObjId → Stage → List (List ℕ)
 states_at d s = option_map_or (λ (i : Inside). i.states) (inside_at d s) []
 
+abbrev pub with_state : List ℕ → Inside → Inside
+with_state name i = record i { states = i.states ++ name ∷ [] }
+
 abbrev pub adds_state : ObjId → List ℕ → Stage → Stage
-adds_state d name s = change_inside d (λ i. record i { states = i.states ++ name ∷ [] }) s
+adds_state d name s = change_inside d (with_state name) s
 
 abbrev pub has_state : ObjId → List ℕ → Stage → Bool
 has_state d name s = is_among name (states_at d s)
@@ -52,13 +71,6 @@ is_text text (Some v) = same v (value.Text text)
 
 abbrev pub is_current : ObjId → List ℕ → Stage → Bool
 is_current d name s = is_text name (option_and_then (λ c. property c current_state) (object_at d s))
-
--- what a request for a state comes to
-pub data Change : Type 0 where
-  Nothing : Change
-  -- while a change runs, or the first state isn't entered
-  Kept : Change
-  Begin : Change
 
 abbrev pub waits : Keeping → Bool
 waits k = k.running || not k.entered
@@ -79,9 +91,15 @@ abbrev pub begins : Option (List ℕ) → ObjId → Stage → Stage
 begins None d s = s
 begins (Some name) d s = keeps begun d s
 
+abbrev pub begins_first : ObjId → Stage → Stage
+begins_first d s = begins (first_state d s) d s
+
 -- a change is over: the name that was kept is given
+abbrev pub kept_of : Option Entity → Option (List ℕ)
+kept_of e = (keeping_of e).kept
+
 abbrev pub kept_name : ObjId → Stage → Option (List ℕ)
-kept_name d s = (keeping_at d s).kept
+kept_name d s = kept_of (entity_at d s)
 
 abbrev pub over : ObjId → Stage → Stage
 over d s = keeps ended d s

@@ -1,5 +1,4 @@
 -- The stage: the objects of a play, and what is looked up and changed in them.
-use Rattle.std.specs.Option.{option_map_or}
 use Rattle.std.specs.Prelude.{List, None, Option, Some, [], length, map, option_and_then, option_map, suc, ℕ}
 use Rattle.flex_base.specs.Lists.{changed_entry, entry}
 use Rattle.flex_base.specs.declared.value.ObjId.{ObjId}
@@ -81,5 +80,9 @@ listeners_of (Some e) = e.object.listeners
 abbrev pub listeners_at : ObjId → Stage → List Registration
 listeners_at node s = listeners_of (entity_at node s)
 
+abbrev pub children_of : Option Entity → List ObjId
+children_of None = []
+children_of (Some e) = e.object.children
+
 abbrev pub children_at : ObjId → Stage → List ObjId
-children_at o s = option_map_or (λ (c : Object). c.children) (object_at o s) []
+children_at o s = children_of (entity_at o s)

@@ -1,12 +1,13 @@
 -- Components stand in containers.
 use Rattle.std.specs.List.{insert}
-use Rattle.std.specs.Prelude.{Bool, Err, List, None, Ok, Option, Result, Some, false, if◌then◌else◌, not, ℕ, ℤ, ◌∷◌}
+use Rattle.std.specs.Prelude.{Bool, Err, List, None, Ok, Option, Result, Some, false, if◌then◌else◌, length, not, ℕ, ℤ, ◌∷◌}
 use Rattle.flex_base.specs.declared.outcome.Stop.{Stop}
 use Rattle.flex_base.specs.declared.outcome.Stop.TheVariants as stop
 use Rattle.flex_base.specs.declared.value.ObjId.{ObjId}
 use Rattle.flex_world.specs.Children.{child_at, joined_to, place_for, without_child}
 use Rattle.flex_world.specs.Objects.{Object, Spot, ancestors_of, is_object_among, parent_of}
 use Rattle.ui_runtime.specs.Stage.{Stage, change, children_at, object_at, objects}
+use Rattle.ui_runtime.specs.declared.children.Placed.{Placed}
 
 -- an object, its parent, that one's parent, and so on
 abbrev pub path : ObjId → Stage → List ObjId
@@ -15,6 +16,9 @@ path o s = o ∷ ancestors_of (objects s) o
 -- the child at a place, if there is one
 abbrev pub child : ObjId → ℤ → Stage → Option ObjId
 child container place s = child_at (children_at container s) place
+
+abbrev pub child_count : ObjId → Stage → ℕ
+child_count container s = length (children_at container s)
 
 abbrev pub without_parent : Object → Object
 without_parent c = record c { parent = None }
@@ -44,12 +48,6 @@ abbrev pub was_added : Option Object → Bool
 was_added None = false
 was_added (Some c) = c.was_added
 
--- where a component was put: from which parent, at which place, and whether it had no parent before
-pub record Placed : Type 0 where
-  pub from : Option ObjId
-  pub place : ℕ
-  pub first : Bool
-
 abbrev pub placed_in : ObjId → ObjId → Option Spot → Stage → Stage → Placed × Stage
 placed_in container o spot before s = (
   record { from = parent_of (object_at o before); place = place_in container spot s; first = not (was_added (object_at o s)) },
@@ -61,3 +59,8 @@ abbrev pub places : ObjId → ObjId → Option Spot → Stage → Result (Placed
 places container o spot s =
     if is_object_among o (path container s) then Err stop.Cycle
     else Ok (placed_in container o spot s (taken_out o s))
+
+-- the spot of a declared child: the document that adds it, and the number of its declaration
+abbrev pub spot_in : ObjId → Option (ObjId × ℕ) → Option Spot
+spot_in container None = None
+spot_in container (Some rank) = Some (record { container = container; document = rank.0; number = rank.1 })

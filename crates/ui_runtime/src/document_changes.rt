@@ -1,0 +1,86 @@
+// Changes of what documents keep of their bindings and states.
+
+ghost use Rattle.std.specs.Prelude.{◌≡◌, OnOk};
+ghost use Rattle.flex_base.specs.Lists.{changed_entry, entry};
+ghost use Rattle.flex_objects.specs.Entities.{begun, ended, with_enabled, with_kept, with_open, without_open};
+ghost use Rattle.ui_runtime.specs.Documents.{keeps_in, kept_of, with_state};
+ghost use Rattle.ui_runtime.specs.Stage.{with_inside};
+
+use crate::objects::Objects;
+use flex_base::{NoMemory, ObjId, Text};
+use flex_objects::{Entity, Keeping};
+
+// Each changes nothing where the document isn't there.
+#[tactic(auto, using(crate::proofs::Entries::entry_changed, crate::proofs::Entries::no_entry_changed))]
+impl Objects {
+    // A binding is enabled.
+    pub fn enable(&mut self, document: ObjId, binding: u32) -> Result<(), NoMemory>
+        ensures { OnOk result (self.new ≡ keeps_in (with_enabled binding) document self.old) }
+    {
+        match self.get_mut(document) {
+            Some(entity) => entity.keeping.enable(binding),
+            None => Ok(()),
+        }
+    }
+
+    // A run of a binding begins.
+    pub fn open(&mut self, document: ObjId, binding: u32) -> Result<(), NoMemory>
+        ensures { OnOk result (self.new ≡ keeps_in (with_open binding) document self.old) }
+    {
+        match self.get_mut(document) {
+            Some(entity) => entity.keeping.open(binding),
+            None => Ok(()),
+        }
+    }
+
+    // A run of a binding is over.
+    pub fn close(&mut self, document: ObjId, binding: u32)
+        ensures { self.new ≡ keeps_in (without_open binding) document self.old }
+    {
+        match self.get_mut(document) {
+            Some(entity) => entity.keeping.close(binding),
+            None => {}
+        }
+    }
+
+    // A state is registered.
+    pub fn add_state(&mut self, document: ObjId, name: Text) -> Result<(), NoMemory>
+        ensures { OnOk result (self.new ≡ changed_entry (with_inside (with_state name)) self.old document.0) }
+    {
+        match self.get_mut(document) {
+            Some(entity) => entity.states.push(name),
+            None => Ok(()),
+        }
+    }
+
+    // The name of a state that is asked for is kept.
+    pub fn keep(&mut self, document: ObjId, name: Text)
+        ensures { self.new ≡ keeps_in (with_kept name) document self.old }
+    {
+        match self.get_mut(document) {
+            Some(entity) => entity.keeping.keep(name),
+            None => {}
+        }
+    }
+
+    // A change of the state begins.
+    pub fn begin(&mut self, document: ObjId)
+        ensures { self.new ≡ keeps_in begun document self.old }
+    {
+        match self.get_mut(document) {
+            Some(entity) => entity.keeping.begin(),
+            None => {}
+        }
+    }
+
+    // A change of the state is over; it gives the name that was kept.
+    pub fn end(&mut self, document: ObjId) -> Option<Text>
+        ensures kept { result ≡ kept_of (entry self.old document.0) }
+        ensures after { self.new ≡ keeps_in ended document self.old }
+    {
+        match self.get_mut(document) {
+            Some(entity) => entity.keeping.end(),
+            None => None,
+        }
+    }
+}
