@@ -1,5 +1,5 @@
 -- The objects by their numbers.
-use Rattle.std.proofs.Common.{◌≡◌, ℕ, zero, suc, List, map, refl, ap, sym, ◌∙◌, Option}
+use Rattle.std.proofs.Common.{◌≡◌, ℕ, zero, suc, List, map, refl, ap, sym, Option}
 use Rattle.std.proofs.lemmas.Option.{slice_get-map}
 use Rattle.std.specs.Prelude.{option_map}
 use Rattle.flex_base.specs.Lists.{entry}

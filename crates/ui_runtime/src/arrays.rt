@@ -116,14 +116,6 @@ impl State {
             Err(_) => Err(RunRefusal::Stop(Stop::ArrayIndex)),
         }
     }
-
-    // Takes the last element of an array away.
-    pub fn pop(&mut self, array: ObjId) -> Value
-        ensures value { result ≡ popped array self.old }
-        ensures after { self.new ≡ without_popped array self.old }
-    {
-        self.objects.pop(array)
-    }
 }
 
 impl Stage {
@@ -161,7 +153,7 @@ impl Stage {
         ensures after { self.new ≡ option_map (without_popped array) self.old }
     {
         match &mut self.state {
-            Some(state) => state.pop(array),
+            Some(state) => state.objects.pop(array),
             None => Value::Undefined,
         }
     }

@@ -2,13 +2,17 @@
 //! do to them. It calls no code itself. ActionScript 3 and Flex 4, in this project's profile.
 //!
 //! After want of memory a stage holds nothing, and answers `NoMemory` to each later call that has
-//! this answer. Objects and arrays are made and read; the definitions say what else a stage does.
+//! this answer.
 #![tactic(auto)]
 
 mod arrays;
 mod children;
+#[cfg(test)]
+mod component_tests;
 mod document_changes;
 mod documents;
+#[cfg(test)]
+mod event_tests;
 mod events;
 mod listening;
 mod making;
@@ -21,6 +25,8 @@ mod states;
 #[cfg(test)]
 mod tests;
 mod tree;
+#[cfg(test)]
+mod value_tests;
 mod writing;
 
 pub use children::Placed;

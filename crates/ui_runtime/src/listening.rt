@@ -71,20 +71,6 @@ impl State {
     {
         self.objects.listen(node, kind, listener, capture, priority)
     }
-
-    // Removes a listener of a node.
-    pub fn unlisten(
-        &mut self,
-        node: ObjId,
-        kind: &Text,
-        listener: (ObjId, u32),
-        capture: bool,
-    ) -> Removal
-        ensures answer { result ≡ removed node kind.now listener capture self.old }
-        ensures after { self.new ≡ unlistens node kind.now listener capture self.old }
-    {
-        self.objects.unlisten(node, kind, listener, capture)
-    }
 }
 
 impl Stage {
@@ -120,7 +106,7 @@ impl Stage {
         ensures after { self.new ≡ option_map (unlistens node kind.now listener capture) self.old }
     {
         match &mut self.state {
-            Some(state) => state.unlisten(node, kind, listener, capture),
+            Some(state) => state.objects.unlisten(node, kind, listener, capture),
             None => Removal::Absent,
         }
     }

@@ -1,0 +1,189 @@
+// Components, which are all Groups here: where they stand, and a document's bindings and states.
+
+use crate::{Change, Placed, Stage, Written};
+use component_catalog::NativeClass;
+use flex_base::{Chain, Chains, NoMemory, ObjId, RunRefusal, Stop, Text, Value};
+use flex_objects::{ClassInfo, SlotTable};
+use flex_world::Class;
+use std::alloc::Global;
+use std::process::Abort;
+use std::rc::Rc;
+use std::test::Fail;
+
+const MAIN: ObjId = ObjId(1);
+
+const GROUP: ObjId = ObjId(2);
+
+const LABEL: ObjId = ObjId(3);
+
+fn group_class(alloc: Global) -> Result<ClassInfo, NoMemory> {
+    let mut fields = SlotTable::new(alloc);
+    fields.add_native(NativeClass::UIComponent)?;
+    Ok(ClassInfo {
+        class: Class::Native(NativeClass::Group),
+        native: Some(NativeClass::Group),
+        fields: Rc::new(alloc, fields)?,
+        hidden: Rc::new(alloc, SlotTable::new(alloc))?,
+    })
+}
+
+// A stage with so many Groups.
+fn groups(alloc: Global, count: u32) -> Result<Stage, RunRefusal> {
+    let class = group_class(alloc)?;
+    let mut stage = Stage::new(alloc);
+    for _ in 0..count {
+        stage.make(&class)?;
+    }
+    Ok(stage)
+}
+
+// A child that is put into a container, with a rank of the document or without one, and its place.
+#[derive(Clone, Copy)]
+struct Case {
+    container: u32,
+    child: u32,
+    rank: Option<(ObjId, u32)>,
+    place: u32,
+}
+
+fn make_case(container: u32, child: u32, rank: Option<(ObjId, u32)>, place: u32) -> Case {
+    Case {
+        container,
+        child,
+        rank,
+        place,
+    }
+}
+
+fn expect_place(rt: &impl Abort, stage: &mut Stage, case: &Case) {
+    let placed = stage.place(ObjId(case.container), ObjId(case.child), case.rank);
+    assert!(rt; matches!(placed, Ok(placed) if placed.place == case.place));
+}
+
+#[test]
+fn a_component_moves_and_makes_no_circle(rt: HostRuntime) -> Result<(), Fail> {
+    let alloc = rt.alloc();
+    let mut stage = groups(alloc, 3)?;
+    stage.place(MAIN, GROUP, None)?;
+    let first = stage.place(GROUP, LABEL, None)?;
+    let new = Placed {
+        from: None,
+        place: 0,
+        first: true,
+    };
+    assert_eq!(rt; first, new);
+    let moved = stage.place(MAIN, LABEL, None)?;
+    let wanted = Placed {
+        from: Some(GROUP),
+        place: 1,
+        first: false,
+    };
+    assert_eq!(rt; moved, wanted);
+    let circle = stage.place(GROUP, MAIN, None);
+    assert!(rt; matches!(circle, Err(RunRefusal::Stop(Stop::Cycle))));
+    let itself = stage.place(LABEL, LABEL, None);
+    assert!(rt; matches!(itself, Err(RunRefusal::Stop(Stop::Cycle))));
+    let path = stage.path_of(alloc, LABEL)?;
+    assert_eq!(rt; path.as_slice(), [LABEL, MAIN].as_slice());
+    assert_eq!(rt; stage.child_count(MAIN), 2);
+    assert_eq!(rt; stage.child_at(MAIN, 0), Some(GROUP));
+    assert_eq!(rt; stage.child_at(MAIN, -1), None);
+    assert_eq!(rt; stage.take_out(LABEL), Some(MAIN));
+    assert_eq!(rt; stage.take_out(LABEL), None);
+    Ok(())
+}
+
+#[test]
+fn declared_children_go_behind_their_forerunners(rt: HostRuntime) -> Result<(), Fail> {
+    let alloc = rt.alloc();
+    let mut stage = groups(alloc, 9)?;
+    let cases = [
+        make_case(2, 4, Some((MAIN, 0)), 0),
+        make_case(2, 6, Some((MAIN, 2)), 1),
+        // Between both.
+        make_case(2, 5, Some((MAIN, 1)), 1),
+        // Moved behind them, the first one stays a forerunner.
+        make_case(2, 4, None, 2),
+        make_case(2, 7, Some((MAIN, 1)), 3),
+        // Another document's declarations are none.
+        make_case(2, 8, Some((LABEL, 9)), 0),
+        // Nor are those that were declared in another container.
+        make_case(3, 5, None, 0),
+        make_case(3, 9, Some((MAIN, 7)), 0),
+        // Back in its container, it counts again.
+        make_case(2, 5, None, 4),
+        make_case(2, 9, Some((MAIN, 2)), 5),
+    ];
+    for case in cases.iter() {
+        expect_place(&rt, &mut stage, case);
+    }
+    Ok(())
+}
+
+#[test]
+fn bindings_are_watched_and_open(rt: HostRuntime) -> Result<(), Fail> {
+    let alloc = rt.alloc();
+    let mut stage = groups(alloc, 1)?;
+    let visible = Text::make(alloc, "visible")?;
+    let mut chain = Chain::new(alloc);
+    chain.push(Text::make(alloc, "visible")?)?;
+    let mut chains = Chains::new(alloc);
+    chains.push(chain)?;
+    stage.bind(MAIN, 4, &chains)?;
+    assert!(rt; stage.is_enabled(MAIN, 4) && !stage.is_enabled(MAIN, 3));
+    let written = stage.write(MAIN, &visible, Value::Bool(false))?;
+    assert!(rt; matches!(&written, Written::Changed(pairs) if pairs.len() == 1));
+    stage.open(MAIN, 4)?;
+    assert!(rt; stage.is_open(MAIN, 4));
+    stage.close(MAIN, 4);
+    assert!(rt; !stage.is_open(MAIN, 4));
+    Ok(())
+}
+
+// A state is asked for, and this comes of it.
+fn expect_change(
+    rt: &impl Abort,
+    alloc: Global,
+    stage: &mut Stage,
+    name: &str,
+    wanted: Change,
+) -> Result<(), NoMemory> {
+    let name = Text::make(alloc, name)?;
+    let change = stage.request_state(MAIN, &name);
+    assert!(rt; matches!(change, Ok(change) if change == wanted));
+    Ok(())
+}
+
+fn enter(alloc: Global, stage: &mut Stage, name: &str) -> Result<(), RunRefusal> {
+    let property = Text::make(alloc, "currentState")?;
+    stage.write(MAIN, &property, Value::Text(Text::make(alloc, name)?))?;
+    Ok(())
+}
+
+#[test]
+fn a_state_that_is_asked_for_meanwhile_is_kept(rt: HostRuntime) -> Result<(), Fail> {
+    let alloc = rt.alloc();
+    let mut stage = groups(alloc, 1)?;
+    for name in ["a", "b", "c"].iter() {
+        stage.add_state(MAIN, &Text::make(alloc, name)?)?;
+    }
+    let a = Text::make(alloc, "a")?;
+    assert!(rt; stage.has_state(MAIN, &a));
+    assert!(rt; matches!(stage.first_state(MAIN), Some(name) if name.as_str() == "a"));
+    stage.begin(MAIN);
+    enter(alloc, &mut stage, "a")?;
+    assert!(rt; stage.state_done(MAIN).is_none());
+    assert!(rt; stage.is_current(MAIN, &a));
+    expect_change(&rt, alloc, &mut stage, "b", Change::Begin)?;
+    enter(alloc, &mut stage, "b")?;
+    expect_change(&rt, alloc, &mut stage, "a", Change::Kept)?;
+    expect_change(&rt, alloc, &mut stage, "c", Change::Kept)?;
+    assert!(rt; matches!(stage.state_done(MAIN), Some(name) if name.as_str() == "c"));
+    expect_change(&rt, alloc, &mut stage, "c", Change::Begin)?;
+    enter(alloc, &mut stage, "c")?;
+    assert!(rt; stage.state_done(MAIN).is_none());
+    expect_change(&rt, alloc, &mut stage, "c", Change::Nothing)?;
+    let unknown = stage.request_state(MAIN, &Text::make(alloc, "d")?);
+    assert!(rt; matches!(unknown, Err(RunRefusal::Stop(Stop::UnknownState))));
+    Ok(())
+}
