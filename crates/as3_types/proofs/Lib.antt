@@ -9,3 +9,4 @@ pub mod Natives
 pub mod Inherited
 pub mod Access
 pub mod Sources
+pub mod Packages

@@ -17,7 +17,7 @@ pub use bases::{base_cycle, base_of, descends, is_same_class, not_application, w
 pub use classes::{check_class_file, check_root, start_of, written_base, wrong_package};
 pub use imports::{bare_class, class_at};
 pub use look_ups::{Found, FoundMember, member_of, native_signature, native_type, own_member};
-pub use meaning::{Meaning, catalog_class, catalog_class_in, class_in, source_class};
+pub use meaning::{Meaning, catalog_class, catalog_class_in, class_in, class_of_tag, source_class};
 pub use names::{duplicate_class, unknown_base, wrong_base, wrong_class_name};
 pub use table::{ClassTable, OwnEvent, OwnKind, OwnMember};
 pub use types::{
