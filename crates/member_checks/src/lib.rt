@@ -3,6 +3,7 @@
 #![tactic(auto)]
 
 mod functions;
+mod imports;
 mod locals;
 mod members;
 mod names;
@@ -12,8 +13,9 @@ mod rules;
 mod scope;
 
 pub use functions::{check_local_types, check_parameters, check_result};
+pub use imports::check_imports;
 pub use locals::check_locals;
-pub use members::check_declared;
+pub use members::{check_declared, check_member_code};
 pub use names::{NamedPlace, declared_names};
 pub use naming::{check_function_name, check_variable_name};
 pub use rules::unknown_type;

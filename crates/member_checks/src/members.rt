@@ -1,10 +1,11 @@
 // The rules of what a member declares.
 
-ghost use Rattle.std.specs.Prelude.{◌≡◌, ◌++◌, IfOk, List, map};
+ghost use Rattle.std.specs.Prelude.{◌≡◌, ◌++◌, ◌∷◌, [], IfOk, List, map};
 ghost use Rattle.std.specs.List.{flat_map};
 ghost use Rattle.as3_parser.specs.declared.tree.Modifier.{Modifier};
 ghost use Rattle.source_sites.specs.Sites.{first_site};
-ghost use Rattle.source_sites.specs.Trees.{declares_of, locals_of_body, parameter_of, result_of, variable_of};
+ghost use Rattle.source_sites.specs.Trees.{declares_of, locals_of_body, member_of, parameter_of, result_of, variable_of};
+ghost use Rattle.class_sites.specs.MemberSites.{wrong_modifiers};
 ghost use Rattle.as3_types.specs.Types.{function_of};
 ghost use Rattle.member_checks.specs.CodeRules.{declared_rules, function_rules, local_rules, parameter_rules, result_rules, variable_rules};
 
@@ -16,9 +17,26 @@ use crate::scope::ClassScope;
 use as3_parser::{
     Lexeme, Member, MemberKind, Modifier, Parameter, ResultType, Statement, Variable,
 };
+use as3_types::wrong_modifiers;
 use flex_base::NoMemory;
 use source_sites::Site;
 use std::alloc::Global;
+
+/// The first broken rule of a member behind its metadata: what it declares, and then its words.
+#[tactic(auto, using(crate::proofs::Walks::first_fails, crate::proofs::Walks::first_holds))]
+pub fn check_member_code(
+    alloc: Global,
+    scope: &ClassScope,
+    member: &Member,
+) -> Result<Option<Site>, NoMemory>
+    ensures { IfOk result (λ site. site ≡ first_site scope.now.file (declared_rules scope.now member.now.modifiers.items (declares_of member.now.kind) ++ wrong_modifiers (member_of member.now) ∷ [])) }
+{
+    let site = check_declared(alloc, scope, member)?;
+    if site.is_some() {
+        return Ok(site);
+    }
+    Ok(wrong_modifiers(scope.file, member))
+}
 
 /// The first broken rule of what a member declares: of each variable its name and its type; of a
 /// function its name, its parameters, its result and its body.
