@@ -11,6 +11,8 @@ mod naming;
 mod overriding;
 mod rules;
 mod scope;
+#[cfg(test)]
+mod tests;
 
 pub use functions::{check_local_types, check_parameters, check_result};
 pub use imports::check_imports;

@@ -11,6 +11,7 @@ use as3_types::ClassTable;
 use source_sites::NamedClass;
 
 /// The class of a class file, with all names that it declares.
+#[derive(Drop)]
 pub struct ClassScope<'a> {
     pub table: &'a ClassTable,
     /// The number of the file.
