@@ -10,3 +10,4 @@ pub mod Inherited
 pub mod Access
 pub mod Sources
 pub mod Packages
+pub mod ReservedWords

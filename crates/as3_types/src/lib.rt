@@ -3,6 +3,7 @@
 
 mod bases;
 mod classes;
+mod identifiers;
 mod imports;
 mod look_ups;
 mod meaning;
@@ -15,6 +16,7 @@ mod words;
 
 pub use bases::{base_cycle, base_of, descends, is_same_class, not_application, wrong_root};
 pub use classes::{check_class_file, check_root, start_of, written_base, wrong_package};
+pub use identifiers::is_identifier;
 pub use imports::{bare_class, class_at};
 pub use look_ups::{Found, FoundMember, member_of, native_signature, native_type, own_member};
 pub use meaning::{Meaning, catalog_class, catalog_class_in, class_in, class_of_tag, source_class};
