@@ -1,11 +1,10 @@
 // Texts that are identifiers.
 
-ghost use Rattle.std.specs.Prelude.{◌≡◌, ◌∷◌};
+ghost use Rattle.std.specs.Prelude.{◌≡◌};
 ghost use Rattle.std.specs.List.{list_all, list_any};
 ghost use Rattle.std.specs.Str.{bytes_eq, chars};
 ghost use Rattle.as3_lexer.specs.Forms.{continues_word, starts_word};
-ghost use Rattle.as3_lexer.specs.Spelling.{keyword_of, keyword_spelling, keywords};
-ghost use Rattle.source_sites.specs.Texts.{is_there};
+ghost use Rattle.as3_lexer.specs.Spelling.{keyword_spelling, keywords};
 ghost use Rattle.as3_types.specs.Identifiers.{are_word, is_identifier};
 
 use as3_lexer::Keyword;

@@ -1,6 +1,6 @@
 // Look-ups of members in the class table and the catalog.
 
-ghost use Rattle.std.specs.Prelude.{◌≡◌, ◌+◌, ◌<◌, IfOk, length, map, option_map};
+ghost use Rattle.std.specs.Prelude.{◌≡◌, IfOk, length, map, option_map};
 ghost use Rattle.std.specs.List.{filter, find, list_any};
 ghost use Rattle.std.specs.Str.{bytes_eq};
 ghost use Rattle.as3_types.specs.declared.table.OwnMember.{OwnMember};

@@ -1,7 +1,6 @@
 // The types that code names.
 
 ghost use Rattle.std.specs.Prelude.{◌≡◌, ◌<◌, IfOk, List, Option, length, map, option_map};
-ghost use Rattle.flex_world.specs.Kinds.{class_of};
 ghost use Rattle.source_sites.specs.Functions.{is_constructor};
 ghost use Rattle.source_sites.specs.Members.{built_in, result_type, signature_of, type_at, type_of_class};
 ghost use Rattle.source_sites.specs.Names as names;

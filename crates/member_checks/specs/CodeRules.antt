@@ -1,14 +1,19 @@
 -- The rules of the members of a class file.
-use Rattle.std.specs.Prelude.{ℕ, List, [], ◌∷◌, map, length, Bool, not, ◌&&◌, ◌==◌, bytes_eq, Option, None, option_and_then, if◌then◌else◌}
+use Rattle.std.specs.Prelude.{◌≡◌, ℕ, List, [], ◌∷◌, ◌++◌, map, length, Bool, not, ◌&&◌, ◌==◌, bytes_eq, Option, None, option_and_then, if◌then◌else◌}
 use Rattle.std.specs.List.{list_any}
 use Rattle.member_checks.specs.declared.names.NamedPlace.{NamedPlace}
 use Rattle.as3_parser.specs.declared.tree.Lexeme.{Lexeme}
 use Rattle.as3_parser.specs.declared.tree.Modifier.{Modifier}
 use Rattle.source_sites.specs.declared.code.Code.TheVariants as code
-use Rattle.source_sites.specs.Sites.{Rule, rule}
+use Rattle.source_sites.specs.declared.site.Site.{Site}
+use Rattle.source_sites.specs.Sites.{Rule, first_site, rule}
+use Rattle.as3_parser.specs.declared.tree.Member as m
+use Rattle.as3_parser.specs.declared.tree.Parameter as p
+use Rattle.as3_parser.specs.declared.tree.ResultType as r
+use Rattle.as3_parser.specs.declared.tree.Statement.{Statement}
 use Rattle.source_sites.specs.Sources.{Reading, Readers}
 use Rattle.source_sites.specs.Syntax.{ClassFile, Declares, Function, Member, MetadataTag, ResultType, TypedName}
-use Rattle.source_sites.specs.Trees.{member_of}
+use Rattle.source_sites.specs.Trees.{declares_of, locals_of_body, member_of, parameter_of, result_of}
 use Rattle.source_sites.specs.Types.{ValueType}
 use Rattle.flex_world.specs.Classes.{Class, base_in}
 use Rattle.source_sites.specs.Texts.{Text}
@@ -87,3 +92,17 @@ rules_of_name name earlier free fits = new_rule name earlier free ∷ override_r
 abbrev pub above_unless : ClassScope → Bool → Text → Option Found
 above_unless s constructor name =
     if constructor then None else option_and_then (λ base. look_ups.member_of (table_of s.table.now) base name) (base_in (table_of s.table.now).bases (Class.File s.file))
+
+-- a site is that of the first broken of these rules, or there is none
+abbrev pub Finds : ClassScope → List Rule → Option Site → Type 0
+Finds s rules site = site ≡ first_site s.file rules
+
+-- the rules of what a member declares, and of the types that a function names
+abbrev pub code_rules : ClassScope → m.Member → List Rule
+code_rules s member = declared_rules s member.modifiers.items (declares_of member.kind)
+
+abbrev pub body_rules : ClassScope → Option r.ResultType → List Statement → List Rule
+body_rules s given body = result_rules s (result_of given) ++ local_rules s (locals_of_body body)
+
+abbrev pub named_type_rules : ClassScope → List p.Parameter → Option r.ResultType → List Statement → List Rule
+named_type_rules s parameters given body = parameter_rules s 0 (map parameter_of parameters) ++ body_rules s given body

@@ -1,10 +1,10 @@
 // The rules of what functions and variables name.
 
-ghost use Rattle.std.specs.Prelude.{◌≡◌, ◌+◌, [], ◌∷◌, ◌++◌, IfOk, map, length};
+ghost use Rattle.std.specs.Prelude.{◌≡◌, [], ◌∷◌, IfOk, map};
 ghost use Rattle.source_sites.specs.Sites.{first_site};
 ghost use Rattle.source_sites.specs.Trees.{parameter_of, result_of, variable_of};
 ghost use Rattle.class_sites.specs.MemberSites.{too_many_parameters};
-ghost use Rattle.member_checks.specs.CodeRules.{local_rules, parameter_rules, result_rules, type_rule};
+ghost use Rattle.member_checks.specs.CodeRules.{Finds, local_rules, parameter_rules, result_rules, type_rule};
 
 use crate::rules::unknown_type;
 use crate::scope::ClassScope;
@@ -23,7 +23,7 @@ pub fn check_parameters(
     scope: &ClassScope,
     parameters: &[Parameter],
 ) -> Result<Option<Site>, NoMemory>
-    ensures { IfOk result (λ site. site ≡ first_site scope.now.file (parameter_rules scope.now 0 (map parameter_of parameters.now))) }
+    ensures { IfOk result (Finds scope.now (parameter_rules scope.now 0 (map parameter_of parameters.now))) }
 {
     let mut number = 0;
     let mut rest = parameters;
@@ -46,7 +46,7 @@ fn check_parameter(
     number: usize,
     parameter: &Parameter,
 ) -> Result<Option<Site>, NoMemory>
-    ensures { IfOk result (λ site. site ≡ first_site scope.now.file (too_many_parameters number (parameter_of parameter.now) ∷ type_rule scope.now parameter.now.type_name.items ∷ [])) }
+    ensures { IfOk result (Finds scope.now (too_many_parameters number (parameter_of parameter.now) ∷ type_rule scope.now parameter.now.type_name.items ∷ [])) }
 {
     let many = too_many_parameters(scope.file, number, parameter);
     if many.is_some() {
@@ -69,7 +69,7 @@ pub fn check_result(
     scope: &ClassScope,
     given: &Option<ResultType>,
 ) -> Result<Option<Site>, NoMemory>
-    ensures { IfOk result (λ site. site ≡ first_site scope.now.file (result_rules scope.now (result_of given.now))) }
+    ensures { IfOk result (Finds scope.now (result_rules scope.now (result_of given.now))) }
 {
     match given {
         Some(ResultType::Path(path)) => unknown_type(alloc, scope, path.as_slice()),
@@ -83,7 +83,7 @@ pub fn check_local_types(
     scope: &ClassScope,
     variables: &[Variable],
 ) -> Result<Option<Site>, NoMemory>
-    ensures { IfOk result (λ site. site ≡ first_site scope.now.file (local_rules scope.now (map variable_of variables.now))) }
+    ensures { IfOk result (Finds scope.now (local_rules scope.now (map variable_of variables.now))) }
 {
     let mut rest = variables;
     while let Some((variable, others)) = rest.split_first() {

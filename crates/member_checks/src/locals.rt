@@ -1,9 +1,8 @@
 // The types of the local variables of a body.
 
-ghost use Rattle.std.specs.Prelude.{◌≡◌, IfOk};
-ghost use Rattle.source_sites.specs.Sites.{first_site};
+ghost use Rattle.std.specs.Prelude.{IfOk};
 ghost use Rattle.source_sites.specs.Trees.{locals_of, locals_of_body, locals_of_start};
-ghost use Rattle.member_checks.specs.CodeRules.{local_rules};
+ghost use Rattle.member_checks.specs.CodeRules.{Finds, local_rules};
 
 use crate::functions::check_local_types;
 use crate::scope::ClassScope;
@@ -19,7 +18,7 @@ pub fn check_locals(
     scope: &ClassScope,
     statements: &[Statement],
 ) -> Result<Option<Site>, NoMemory>
-    ensures { IfOk result (λ site. site ≡ first_site scope.now.file (local_rules scope.now (locals_of_body statements.now))) }
+    ensures { IfOk result (Finds scope.now (local_rules scope.now (locals_of_body statements.now))) }
 {
     for statement in statements {
         let site = check_statement(alloc, scope, statement)?;
@@ -37,7 +36,7 @@ fn check_statement(
     scope: &ClassScope,
     statement: &Statement,
 ) -> Result<Option<Site>, NoMemory>
-    ensures { IfOk result (λ site. site ≡ first_site scope.now.file (local_rules scope.now (locals_of statement.now))) }
+    ensures { IfOk result (Finds scope.now (local_rules scope.now (locals_of statement.now))) }
 {
     match statement {
         Statement::Block(_, statements) => check_locals(alloc, scope, statements.as_slice()),
@@ -75,7 +74,7 @@ fn check_start(
     scope: &ClassScope,
     start: &Option<LoopStart>,
 ) -> Result<Option<Site>, NoMemory>
-    ensures { IfOk result (λ site. site ≡ first_site scope.now.file (local_rules scope.now (locals_of_start start.now))) }
+    ensures { IfOk result (Finds scope.now (local_rules scope.now (locals_of_start start.now))) }
 {
     match start {
         Some(LoopStart::Variables(_, variables)) => {

@@ -1,13 +1,12 @@
 // The rules of what a member declares.
 
-ghost use Rattle.std.specs.Prelude.{◌≡◌, ◌++◌, ◌∷◌, [], IfOk, List, map};
+ghost use Rattle.std.specs.Prelude.{◌++◌, ◌∷◌, [], IfOk, List, map};
 ghost use Rattle.std.specs.List.{flat_map};
 ghost use Rattle.as3_parser.specs.declared.tree.Modifier.{Modifier};
-ghost use Rattle.source_sites.specs.Sites.{first_site};
-ghost use Rattle.source_sites.specs.Trees.{declares_of, locals_of_body, member_of, parameter_of, result_of, variable_of};
+ghost use Rattle.source_sites.specs.Trees.{locals_of_body, member_of, variable_of};
 ghost use Rattle.class_sites.specs.MemberSites.{wrong_modifiers};
 ghost use Rattle.as3_types.specs.Types.{function_of};
-ghost use Rattle.member_checks.specs.CodeRules.{declared_rules, function_rules, local_rules, parameter_rules, result_rules, variable_rules};
+ghost use Rattle.member_checks.specs.CodeRules.{Finds, body_rules, code_rules, function_rules, named_type_rules, variable_rules};
 
 use crate::functions::{check_parameters, check_result};
 use crate::locals::check_locals;
@@ -29,7 +28,7 @@ pub fn check_member_code(
     scope: &ClassScope,
     member: &Member,
 ) -> Result<Option<Site>, NoMemory>
-    ensures { IfOk result (λ site. site ≡ first_site scope.now.file (declared_rules scope.now member.now.modifiers.items (declares_of member.now.kind) ++ wrong_modifiers (member_of member.now) ∷ [])) }
+    ensures { IfOk result (Finds scope.now (code_rules scope.now member.now ++ wrong_modifiers (member_of member.now) ∷ [])) }
 {
     let site = check_declared(alloc, scope, member)?;
     if site.is_some() {
@@ -45,7 +44,7 @@ pub fn check_declared(
     scope: &ClassScope,
     member: &Member,
 ) -> Result<Option<Site>, NoMemory>
-    ensures { IfOk result (λ site. site ≡ first_site scope.now.file (declared_rules scope.now member.now.modifiers.items (declares_of member.now.kind))) }
+    ensures { IfOk result (Finds scope.now (code_rules scope.now member.now)) }
 {
     let modifiers = member.modifiers.as_slice();
     match &member.kind {
@@ -67,7 +66,7 @@ fn check_variables(
     scope: &ClassScope,
     variables: &[Variable],
 ) -> Result<Option<Site>, NoMemory>
-    ensures { IfOk result (λ site. (modifiers : List Modifier) → site ≡ first_site scope.now.file (flat_map (variable_rules scope.now modifiers) (map variable_of variables.now))) }
+    ensures { IfOk result (λ site. (modifiers : List Modifier) → Finds scope.now (flat_map (variable_rules scope.now modifiers) (map variable_of variables.now)) site) }
 {
     let mut rest = variables;
     while let Some((variable, others)) = rest.split_first() {
@@ -85,7 +84,7 @@ fn check_variable(
     scope: &ClassScope,
     variable: &Variable,
 ) -> Result<Option<Site>, NoMemory>
-    ensures { IfOk result (λ site. (modifiers : List Modifier) → site ≡ first_site scope.now.file (variable_rules scope.now modifiers (variable_of variable.now))) }
+    ensures { IfOk result (λ site. (modifiers : List Modifier) → Finds scope.now (variable_rules scope.now modifiers (variable_of variable.now)) site) }
 {
     let name = check_variable_name(scope, variable);
     if name.is_some() {
@@ -104,7 +103,7 @@ fn check_function(
     given: &Option<ResultType>,
     body: &[Statement],
 ) -> Result<Option<Site>, NoMemory>
-    ensures { IfOk result (λ site. site ≡ first_site scope.now.file (function_rules scope.now modifiers.now (function_of name.now parameters.now given.now (locals_of_body body.now)))) }
+    ensures { IfOk result (Finds scope.now (function_rules scope.now modifiers.now (function_of name.now parameters.now given.now (locals_of_body body.now)))) }
 {
     let own = check_function_name(alloc, scope, modifiers, name, parameters, given)?;
     if own.is_some() {
@@ -124,7 +123,7 @@ fn check_types(
     given: &Option<ResultType>,
     body: &[Statement],
 ) -> Result<Option<Site>, NoMemory>
-    ensures { IfOk result (λ site. site ≡ first_site scope.now.file (parameter_rules scope.now 0 (map parameter_of parameters.now) ++ (result_rules scope.now (result_of given.now) ++ local_rules scope.now (locals_of_body body.now)))) }
+    ensures { IfOk result (Finds scope.now (named_type_rules scope.now parameters.now given.now body.now)) }
 {
     let first = check_parameters(alloc, scope, parameters)?;
     if first.is_some() {
@@ -141,7 +140,7 @@ fn check_result_and_body(
     given: &Option<ResultType>,
     body: &[Statement],
 ) -> Result<Option<Site>, NoMemory>
-    ensures { IfOk result (λ site. site ≡ first_site scope.now.file (result_rules scope.now (result_of given.now) ++ local_rules scope.now (locals_of_body body.now))) }
+    ensures { IfOk result (Finds scope.now (body_rules scope.now given.now body.now)) }
 {
     let first = check_result(alloc, scope, given)?;
     if first.is_some() {

@@ -1,7 +1,7 @@
 // The names that a class declares.
 
 ghost use Rattle.std.specs.Prelude.{◌≡◌, ◌++◌, ◌∷◌, [], IfOk, OnOk, map};
-ghost use Rattle.source_sites.specs.Trees.{declares_of, member_of, variable_of};
+ghost use Rattle.source_sites.specs.Trees.{declares_of, member_of};
 ghost use Rattle.class_sites.specs.MemberSites.{names_declared, names_of_members};
 ghost use Rattle.member_checks.specs.Places.{lexeme_place, place_of_name, variable_place};
 

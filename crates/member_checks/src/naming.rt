@@ -6,7 +6,6 @@ ghost use Rattle.std.specs.Str.{bytes_eq};
 ghost use Rattle.as3_parser.specs.declared.tree.Modifier.{Modifier};
 ghost use Rattle.source_sites.specs.Functions.{access_of, overrides};
 ghost use Rattle.source_sites.specs.Members.{signature_of};
-ghost use Rattle.source_sites.specs.Sites.{first_site};
 ghost use Rattle.source_sites.specs.Syntax.{TypedName};
 ghost use Rattle.source_sites.specs.Trees.{variable_of};
 ghost use Rattle.class_sites.specs.MemberSites.{fits_override, name_of_function, name_of_variable};
@@ -14,7 +13,7 @@ ghost use Rattle.as3_types.specs.Tables.{found_as};
 ghost use Rattle.as3_types.specs.Types.{function_of};
 ghost use Rattle.member_checks.specs.declared.names.NamedPlace.{NamedPlace};
 ghost use Rattle.member_checks.specs.Places.{places_before};
-ghost use Rattle.member_checks.specs.CodeRules.{above_unless, name_rules, new_rule, override_rule, room_rule, rules_of_name};
+ghost use Rattle.member_checks.specs.CodeRules.{Finds, above_unless, name_rules, new_rule, override_rule, room_rule, rules_of_name};
 
 use crate::names::NamedPlace;
 use crate::overriding::fits_override;
@@ -31,7 +30,7 @@ const MOST_MEMBERS: usize = 1024;
 
 /// The first broken rule of the name of a variable.
 pub fn check_variable_name(scope: &ClassScope, variable: &Variable) -> Option<Site>
-    ensures { (modifiers : List Modifier) → result ≡ first_site scope.now.file (name_rules scope.now (name_of_variable 0 modifiers (variable_of variable.now))) }
+    ensures { (modifiers : List Modifier) → Finds scope.now (name_rules scope.now (name_of_variable 0 modifiers (variable_of variable.now))) result }
 {
     let above = inherited(scope, &variable.name, false);
     let free = is_free(false, above);
@@ -47,7 +46,7 @@ pub fn check_function_name(
     parameters: &[Parameter],
     given: &Option<ResultType>,
 ) -> Result<Option<Site>, NoMemory>
-    ensures { IfOk result (λ site. (locals : List TypedName) → site ≡ first_site scope.now.file (name_rules scope.now (name_of_function 0 modifiers.now (function_of name.now parameters.now given.now locals)))) }
+    ensures { IfOk result (λ site. (locals : List TypedName) → Finds scope.now (name_rules scope.now (name_of_function 0 modifiers.now (function_of name.now parameters.now given.now locals))) site) }
 {
     let constructor = is_constructor(scope.here, name);
     let above = inherited(scope, name, constructor);
@@ -101,7 +100,7 @@ fn fits_if_override(
 // what it overrides fits; and it is among the first 1,024.
 #[tactic(auto, using(crate::proofs::Walks::one_fails, crate::proofs::Walks::one_holds))]
 fn check_name(scope: &ClassScope, name: &Lexeme, free: bool, fits: bool) -> Option<Site>
-    ensures { result ≡ first_site scope.now.file (rules_of_name name.now (places_before 0 name.now.span.start scope.now.names.now) free fits) }
+    ensures { Finds scope.now (rules_of_name name.now (places_before 0 name.now.span.start scope.now.names.now) free fits) result }
 {
     let duplicate = duplicate_member(scope, name, free);
     if duplicate.is_some() {
@@ -112,7 +111,7 @@ fn check_name(scope: &ClassScope, name: &Lexeme, free: bool, fits: bool) -> Opti
 
 #[tactic(auto, using(crate::proofs::Walks::one_fails, crate::proofs::Walks::one_holds))]
 fn check_room(scope: &ClassScope, name: &Lexeme, fits: bool) -> Option<Site>
-    ensures { result ≡ first_site scope.now.file (override_rule name.now fits ∷ room_rule name.now (places_before 0 name.now.span.start scope.now.names.now) ∷ []) }
+    ensures { Finds scope.now (override_rule name.now fits ∷ room_rule name.now (places_before 0 name.now.span.start scope.now.names.now) ∷ []) result }
 {
     let wrong = site_unless(fits, scope.file, name.span.start, Code::WrongOverride);
     if wrong.is_some() {
@@ -122,7 +121,7 @@ fn check_room(scope: &ClassScope, name: &Lexeme, fits: bool) -> Option<Site>
 }
 
 fn duplicate_member(scope: &ClassScope, name: &Lexeme, free: bool) -> Option<Site>
-    ensures { result ≡ first_site scope.now.file (new_rule name.now (places_before 0 name.now.span.start scope.now.names.now) free ∷ []) }
+    ensures { Finds scope.now (new_rule name.now (places_before 0 name.now.span.start scope.now.names.now) free ∷ []) result }
 {
     let at = name.span.start;
     let holds = is_new(scope.names, name, free);
@@ -136,7 +135,7 @@ fn is_new(names: &[NamedPlace], name: &Lexeme, free: bool) -> bool
 }
 
 fn too_many_members(scope: &ClassScope, name: &Lexeme) -> Option<Site>
-    ensures { result ≡ first_site scope.now.file (room_rule name.now (places_before 0 name.now.span.start scope.now.names.now) ∷ []) }
+    ensures { Finds scope.now (room_rule name.now (places_before 0 name.now.span.start scope.now.names.now) ∷ []) result }
 {
     let at = name.span.start;
     let before = count_before(scope.names, at);

@@ -1,10 +1,8 @@
 // The rules of the types that code names.
 
 ghost use Rattle.std.specs.Prelude.{◌≡◌, [], ◌∷◌, IfOk};
-ghost use Rattle.source_sites.specs.Sites.{first_site};
-ghost use Rattle.class_sites.specs.MemberSites.{is_known_type};
 ghost use Rattle.as3_types.specs.Types.{type_of};
-ghost use Rattle.member_checks.specs.CodeRules.{known_type, type_rule};
+ghost use Rattle.member_checks.specs.CodeRules.{Finds, known_type, type_rule};
 
 use crate::scope::ClassScope;
 use as3_parser::Lexeme;
@@ -19,7 +17,7 @@ pub fn unknown_type(
     scope: &ClassScope,
     path: &[Lexeme],
 ) -> Result<Option<Site>, NoMemory>
-    ensures { IfOk result (λ site. site ≡ first_site scope.now.file (type_rule scope.now path.now ∷ [])) }
+    ensures { IfOk result (Finds scope.now (type_rule scope.now path.now ∷ [])) }
 {
     let classes = scope.table.classes.as_slice();
     let found = type_at(alloc, classes, scope.here, path)?;

@@ -1,7 +1,5 @@
 // Members that are judged where memory is there.
 
-ghost use Rattle.std.specs.Prelude.{◌≡◌, IfOk, length};
-
 use crate::{ClassScope, check_imports, check_member_code, declared_names};
 use as3_lexer::tokens;
 use as3_parser::{ClassFile, parse_class_file};
