@@ -1,8 +1,8 @@
 // Members that are judged where memory is there.
 
 use crate::{ClassScope, check_imports, check_member_code, declared_names};
-use as3_lexer::tokens;
-use as3_parser::{ClassFile, parse_class_file};
+use as3_lexer::{LexRefusal, tokens};
+use as3_parser::{ClassFile, ParseRefusal, parse_class_file};
 use as3_types::ClassTable;
 use component_catalog::NativeClass;
 use flex_base::{NoMemory, Sequence, Text};
@@ -61,11 +61,15 @@ fn first_fault(alloc: Global, file: &ClassFile) -> Result<Option<Site>, NoMemory
 
 // Where a text of a class file is at fault.
 fn fault(alloc: Global, text: &str) -> Result<Option<(usize, Code)>, NoMemory> {
-    let Ok(tokens) = tokens(alloc, text) else {
-        return Ok(None);
+    let tokens = match tokens(alloc, text) {
+        Ok(tokens) => tokens,
+        Err(LexRefusal::NoMemory) => return Err(NoMemory),
+        Err(LexRefusal::BadToken(at)) => return Ok(Some((at, Code::BadToken))),
     };
-    let Ok(file) = parse_class_file(alloc, text, &tokens) else {
-        return Ok(Some((0, Code::Syntax)));
+    let file = match parse_class_file(alloc, text, &tokens) {
+        Ok(file) => file,
+        Err(ParseRefusal::NoMemory) => return Err(NoMemory),
+        Err(_) => return Ok(Some((0, Code::Syntax))),
     };
     match first_fault(alloc, &file)? {
         Some(site) => Ok(Some((site.at, site.code))),
