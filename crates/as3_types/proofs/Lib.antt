@@ -4,3 +4,10 @@ pub mod Numbers
 pub mod Upward
 pub mod Paths
 pub mod Ordered
+pub mod Typed
+pub mod Natives
+pub mod Inherited
+pub mod Access
+pub mod Sources
+pub mod Packages
+pub mod ReservedWords

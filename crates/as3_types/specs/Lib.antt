@@ -1,1 +1,5 @@
 pub mod Meanings
+pub mod Types
+pub mod Natives
+pub mod Tables
+pub mod Identifiers

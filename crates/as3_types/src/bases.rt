@@ -17,7 +17,7 @@ use flex_world::Class;
 use source_sites::{Code, NamedClass, Site};
 
 /// How many classes of the catalog may stand above one another.
-const CATALOG_LEVELS: usize = 4;
+pub const CATALOG_LEVELS: usize = 4;
 
 /// The class of a file is none of its own ancestors, where each class has the base that stands at
 /// its number. At the root of a document, and at the class name of a class file.
@@ -88,7 +88,7 @@ fn stands_above(bases: &[Option<Class>], from: Option<Class>, wanted: Class) -> 
         let Some(class) = level else {
             return false;
         };
-        if is_same(wanted, class) {
+        if is_same_class(wanted, class) {
             return true;
         }
         level = base_of(bases, class);
@@ -113,7 +113,8 @@ pub fn base_of(bases: &[Option<Class>], class: Class) -> Option<Class>
     }
 }
 
-fn is_same(one: Class, other: Class) -> bool
+/// Whether two classes are the same.
+pub fn is_same_class(one: Class, other: Class) -> bool
     ensures { result ≡ same_class (class_of one) (class_of other) }
 {
     match (one, other) {

@@ -124,8 +124,8 @@ fn check_base(
     }
 }
 
-// The place of a path in code.
-fn start_of(path: &[Lexeme]) -> usize
+/// The place of a path in code, in bytes; 0 for a path of no name.
+pub fn start_of(path: &[Lexeme]) -> usize
     ensures { result ≡ path_at path.now }
 {
     match path.first() {

@@ -1,11 +1,12 @@
 // What the names of classes mean, in the source set and in the catalog.
 
 ghost use Rattle.std.specs.Prelude.{◌≡◌, ◌+◌, ◌<◌, length};
-ghost use Rattle.source_sites.specs.Names.{as_native, catalog_class, catalog_class_in, class_in, is_class, is_named, number_of, source_class};
-ghost use Rattle.as3_types.specs.Meanings.{meaning_of};
+ghost use Rattle.source_sites.specs.Names.{as_native, catalog_class, catalog_class_in, class_in, class_of_tag, is_class, is_named, number_of, source_class};
+ghost use Rattle.as3_types.specs.Meanings.{class_of_package, meaning_of};
 
 use component_catalog::NativeClass;
 use flex_world::Class;
+use mxml_tree::Element;
 use source_sites::NamedClass;
 
 /// The namespace of the native classes in documents, by which the catalog knows each of them.
@@ -103,4 +104,35 @@ fn native_meaning(class: Option<NativeClass>) -> Meaning
         Some(NativeClass::State) => Meaning::State,
         Some(class) => Meaning::Class(Class::Native(class)),
     }
+}
+
+/// The class of a tag, by its namespace: those of the catalog, the sources of the unnamed package,
+/// or the classes of a package, as `model.*`.
+pub fn class_of_tag(classes: &[NamedClass], tag: &Element) -> Meaning
+    requires { length classes.now < 4294967296 }
+    ensures { meaning_of result ≡ class_of_tag classes.now tag.now }
+{
+    let space = tag.space.as_str();
+    let name = tag.local.as_str();
+    if space == SPARK {
+        catalog_class(name)
+    } else if space == "*" {
+        source_class(classes, "", name)
+    } else {
+        class_of_package(classes, space, name)
+    }
+}
+
+// The class of a tag whose namespace names a package.
+fn class_of_package(classes: &[NamedClass], space: &str, name: &str) -> Meaning
+    requires { length classes.now < 4294967296 }
+    ensures { meaning_of result ≡ class_of_package classes.now space.now name.now }
+{
+    let Some(folder) = space.strip_suffix(".*") else {
+        return Meaning::NoClass;
+    };
+    if folder.is_empty() {
+        return Meaning::NoClass;
+    }
+    class_in(classes, folder, name)
 }

@@ -3,7 +3,7 @@
 ghost use Rattle.std.specs.Prelude.{◌≡◌, [], ◌∷◌, ◌++◌, map, length};
 ghost use Rattle.std.specs.List.{filter, list_any};
 ghost use Rattle.std.specs.Str.{bytes_eq};
-ghost use Rattle.source_sites.specs.Functions.{is_access, overrides, same_modifier};
+ghost use Rattle.source_sites.specs.Functions.{access_of, is_access, overrides, same_modifier};
 ghost use Rattle.source_sites.specs.Names.{star};
 ghost use Rattle.source_sites.specs.Sites.{first_site, rule};
 ghost use Rattle.source_sites.specs.Texts.{among, without_last};
@@ -75,7 +75,8 @@ fn is_access(modifier: Modifier) -> bool
     !matches!(modifier, Modifier::Override)
 }
 
-fn is_same(one: Modifier, other: Modifier) -> bool
+/// Whether two words are the same.
+pub fn is_same_modifier(one: Modifier, other: Modifier) -> bool
     ensures { result ≡ same_modifier one other }
 {
     match one {
@@ -93,7 +94,8 @@ fn access_words(modifiers: &[Modifier]) -> usize
     modifiers.iter().filter(|word| is_access(**word)).count()
 }
 
-fn overrides(modifiers: &[Modifier]) -> bool
+/// Whether `override` is among these words.
+pub fn overrides(modifiers: &[Modifier]) -> bool
     ensures { result ≡ overrides modifiers.now }
 {
     stands_in(Modifier::Override, modifiers)
@@ -102,7 +104,22 @@ fn overrides(modifiers: &[Modifier]) -> bool
 fn stands_in(word: Modifier, modifiers: &[Modifier]) -> bool
     ensures { result ≡ list_any (same_modifier word) modifiers.now }
 {
-    modifiers.iter().any(|other| is_same(word, *other))
+    modifiers.iter().any(|other| is_same_modifier(word, *other))
+}
+
+/// The access that words give: that of the first word of access, else `public`.
+#[tactic(auto, using(crate::proofs::Access::access_here, crate::proofs::Access::access_behind))]
+pub fn access_of(modifiers: &[Modifier]) -> Modifier
+    ensures { result ≡ access_of modifiers.now }
+{
+    let mut rest = modifiers;
+    while let Some((word, others)) = rest.split_first() {
+        if is_access(*word) {
+            return *word;
+        }
+        rest = others;
+    }
+    Modifier::Public
 }
 
 // Whether a word stands twice.

@@ -1,0 +1,5 @@
+pub mod Walks
+pub mod Declared
+pub mod Before
+pub mod SameTypes
+pub mod BodyLocals
