@@ -1,5 +1,5 @@
 -- In verified code each branch leads further on, or to a label.
-use Rattle.std.proofs.Common.{◌≡◌, ℕ, zero, suc, ◌+◌, ◌<◌, ◌≤◌, ◌⊎◌, inl, inr, ℤ, pos, ◌+ℤ◌, List, [], ◌∷◌, map, Bool, true, false, Option, Some, None, slice_get, refl, sym, ap, ◌∙◌, subst, arith, find, if◌then◌else◌, ◌==◌, option_map, option_and_then, ⊎_elim}
+use Rattle.std.proofs.Common.{◌≡◌, ℕ, zero, suc, ◌<◌, ◌≤◌, ◌⊎◌, inl, inr, ℤ, pos, ◌+ℤ◌, List, [], ◌∷◌, map, Bool, true, false, Option, Some, None, slice_get, refl, sym, ap, ◌∙◌, subst, arith, find, if◌then◌else◌, ◌==◌, option_map, option_and_then, ⊎_elim}
 use Rattle.std.proofs.lemmas.Bool.{cases_lt}
 use Rattle.abc_format.specs.declared.records.Abc.{Abc}
 use Rattle.abc_format.specs.declared.records.MethodBody.{MethodBody}
@@ -7,18 +7,17 @@ use Rattle.abc_format.specs.declared.records.MethodInfo.{MethodInfo}
 use Rattle.avm2_code.specs.declared.body.PlacedInstruction.{PlacedInstruction}
 use Rattle.avm2_code.specs.declared.instruction.Instruction.{Instruction}
 use Rattle.avm2_code.specs.declared.instruction.Instruction.TheVariants as instruction
-use Rattle.avm2_code.specs.Body.{AreInstructions}
 use Rattle.verified_code.specs.Paths.{branch_place, successor}
 use Rattle.verified_code.specs.Sound.{AreSound, LeadsIn}
 use Rattle.verified_code.specs.Verified.{IsVerified}
 use Rattle.verified_code.proofs.SoundLaws.{verified_lists_are_sound}
 use Rattle.avm2_program.specs.Decoding.{instructions, number_at, target}
 use Rattle.avm2_program.specs.Naming.{Naming, naming}
-use Rattle.avm2_program.specs.Operations.{is_late_name, name, operation, operations, operations_of}
+use Rattle.avm2_program.specs.Operations.{is_late_name, name, operation, operations}
 use Rattle.avm2_program.specs.Program.{Body, Method, Operation, Program}
-use Rattle.avm2_program.specs.Resolving.{body_at, method_of, methods_from, program}
+use Rattle.avm2_program.specs.Resolving.{body_at, methods_from, program}
 use Rattle.avm2_program.specs.Resolving.{body_of as resolved}
-use Rattle.avm2_program.proofs.Decoding.{are_instructions, found_at}
+use Rattle.avm2_program.proofs.Decoding.{are_instructions, found_at, none_stands, some_same}
 use Rattle.avm2_meaning.specs.Classes.{body_of}
 use Rattle.avm2_meaning.specs.Moves.{target_or}
 
@@ -37,12 +36,6 @@ BodiesLeadWell p = (m : ℕ) (body : Body) → body_of p m ≡ Some body → Lea
 goes_on : (b : Bool) (x y : Operation) (behind : ℕ) → target_or x behind ≡ behind → target_or y behind ≡ behind → target_or (if b then x else y) behind ≡ behind
 goes_on true x y behind e f = e
 goes_on false x y behind e f = f
-
-some_same : {A : Type 0} (x y : A) → Some x ≡ Some y → x ≡ y
-some_same x y e = cc
-
-none_stands : {A : Type 0} (k : ℕ) (x : A) → slice_get [] k ≡ Some x → ⊥
-none_stands k x e = cc
 
 some_or_none : {A : Type 0} (x : A) → None ≡ Some x → ⊥
 some_or_none x e = cc

@@ -5,3 +5,6 @@ pub mod Branches
 pub mod Left
 pub mod Methods
 pub mod Natives
+pub mod Falls
+pub mod Ends
+pub mod Shown

@@ -1,7 +1,7 @@
 -- What each move of native work comes to: it takes a turn, closes, or lowers what is left of it.
-use Rattle.std.proofs.Common.{◌≡◌, refl, ap, ℕ, zero, suc, ◌+◌, ◌<◌, ◌≤◌, ◌⊎◌, inl, inr, List, [], ◌∷◌, length, map, Bool, true, false, Option, Some, None, arith, codes, not, ◌&&◌, ◌||◌}
+use Rattle.std.proofs.Common.{◌≡◌, refl, ap, ℕ, ◌+◌, ◌<◌, ◌≤◌, ◌⊎◌, inl, inr, List, [], ◌∷◌, length, map, Bool, true, false, Option, Some, None, arith, codes, not, ◌&&◌, ◌||◌}
 use Rattle.std.specs.Prelude.{if◌then◌else◌}
-use Rattle.component_catalog.specs.Events.{Event, change, click, creation_complete, current_state_change}
+use Rattle.component_catalog.specs.Events.{Event, change, click, creation_complete}
 use Rattle.flex_base.specs.declared.event.Arrival.{Arrival}
 use Rattle.flex_base.specs.declared.event.UserEvent.{UserEvent}
 use Rattle.flex_base.specs.declared.event.UserEvent.TheVariants as user
@@ -23,7 +23,7 @@ use Rattle.avm2_meaning.specs.Calls.{call_listener, call_method, call_of, prepar
 use Rattle.avm2_meaning.specs.Classes.{is_component_object}
 use Rattle.avm2_meaning.specs.Dispatch.{announce, arrive, as_dispatch, begin_dispatch, deliver, dispatch_on, end_dispatch, hear, send}
 use Rattle.avm2_meaning.specs.Effects.{Acted, Call, Effect, Next, acted, closes, effect, goes_on, in_place, in_place_by, recorded}
-use Rattle.avm2_meaning.specs.Elements.{add_on, added_item, empty_on, tell_from}
+use Rattle.avm2_meaning.specs.Elements.{added_item, empty_on, tell_from}
 use Rattle.avm2_meaning.specs.Frames.{Adding, Change, ChangeStep, Dispatch, Native}
 use Rattle.avm2_meaning.specs.Heap.{Heap, on_stage}
 use Rattle.avm2_meaning.specs.Making.{make_event}
@@ -33,7 +33,7 @@ use Rattle.avm2_meaning.specs.Properties.{starting_all, stored_as, watcher_of, w
 use Rattle.avm2_meaning.specs.Results.{Goes, Halts, Result, bind, choose, mapped, need, or_fault, staged, test}
 use Rattle.avm2_meaning.specs.Script.{act_event, click_on, default_on, has_flag, miss, reached, request_of, takes_text, toggle, toggles, type_at_path, with_default, write_and}
 use Rattle.avm2_meaning.specs.States.{ask, changes_by, request, request_kept, request_state, state_asked}
-use Rattle.avm2_meaning.proofs.Left.{one_if, parts_of, rank_of, steps_rank}
+use Rattle.avm2_meaning.proofs.Left.{one_if, parts_of, rank_of}
 
 -- less is left of native work
 abbrev pub Less : Native → Native → Type 0
@@ -55,7 +55,7 @@ pub record Holds {A : Type 0} (P : A → Type 0) (r : Result A) : Type 0 where
   pub holds : HoldsIn P r
 
 module _ {A : Type 0} (P : A → Type 0) where
-  holds_bind : {B : Type 0} (r : Result B) (f : B → Heap → Result A) → ((v : B) (h : Heap) → Holds P (f v h)) → Holds P (bind r f)
+  pub holds_bind : {B : Type 0} (r : Result B) (f : B → Heap → Result A) → ((v : B) (h : Heap) → Holds P (f v h)) → Holds P (bind r f)
   holds_bind (Goes v h) f k = k v h
   holds_bind (Halts o) f k = record { holds = tt }
 
@@ -64,7 +64,7 @@ module _ {A : Type 0} (P : A → Type 0) where
   holds_then Q (Goes v h) f q k = k v h q.holds
   holds_then Q (Halts o) f q k = record { holds = tt }
 
-  holds_need : {B : Type 0} (o : Option B) (h : Heap) (f : B → Result A) → ((v : B) → Holds P (f v)) → Holds P (need o h f)
+  pub holds_need : {B : Type 0} (o : Option B) (h : Heap) (f : B → Result A) → ((v : B) → Holds P (f v)) → Holds P (need o h f)
   holds_need (Some v) h f k = k v
   holds_need None h f k = record { holds = tt }
 
@@ -287,9 +287,6 @@ module _ (p : Program) where
   change_owes c (step ∷ steps) h = holds_need (OwedBy (left_to c (step ∷ steps))) (object_at c.document h.stage) h _ (λ d. step_owes c step steps d h)
 
   -- children
-  abbrev adds : Adding → Native
-  adds a = Native.Adds a
-
   told_owes : (a : Adding) → a.from ≡ None → (first : Bool)
       → OwedBy (Native.Adds a) (if first then acted (recorded (added_item a)) (Native.Announces creation_complete a.child) else acted (effect (Next.Close None) (Some (added_item a))) (Native.Adds a))
   told_owes a e true = inl (omega arith)

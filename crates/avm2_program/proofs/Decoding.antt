@@ -28,10 +28,12 @@ module _ (code : List ℕ) where
   pub are_instructions : AreInstructions code (instructions code)
   are_instructions = read_from (length code) 0 (omega arith)
 
-some_same : {A : Type 0} (x y : A) → Some x ≡ Some y → x ≡ y
+-- what is the same under `Some` is the same
+pub some_same : {A : Type 0} (x y : A) → Some x ≡ Some y → x ≡ y
 some_same x y e = cc
 
-none_stands : {A : Type 0} (k : ℕ) (x : A) → slice_get [] k ≡ Some x → ⊥
+-- nothing stands in an empty list
+pub none_stands : {A : Type 0} (k : ℕ) (x : A) → slice_get [] k ≡ Some x → ⊥
 none_stands k x e = cc
 
 at_once : (b : Bool) (n : ℕ) → b ≡ true → (if b then 0 else n) ≡ 0
