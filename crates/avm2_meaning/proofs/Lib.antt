@@ -1,3 +1,10 @@
 pub mod MoreTurns
 pub mod Plays
 pub mod Examples
+pub mod Branches
+pub mod Left
+pub mod Methods
+pub mod Natives
+pub mod Falls
+pub mod Ends
+pub mod Shown

@@ -3,13 +3,15 @@
 #![tactic(auto)]
 
 ghost use Rattle.avm2_meaning.specs.Examples.{GreetingPlays, SpentPlays};
-ghost use Rattle.avm2_meaning.specs.GoingOn.{HasOneStory, MoreTurnsGoOn};
+ghost use Rattle.avm2_meaning.specs.GoingOn.{EveryPlayEnds, HasOneStory, MoreTurnsGoOn};
 ghost use Rattle.avm2_meaning.specs.StopExamples.{StopsByCause};
 
-/// A file shows one story at most under a script, with so many turns. More turns go on where fewer
-/// ended: what was seen is the beginning of what is seen with more turns, and a play that came to
-/// another end stays as it was.
+/// Every play of verified code ends. A file shows one story at most under a script, with so many
+/// turns; so verified code shows exactly one. More turns go on where fewer ended: what was seen is
+/// the beginning of what is seen with more turns, and a play that came to another end stays as it
+/// was.
 pub fn laws_of_plays()
+    ensures ends { EveryPlayEnds }
     ensures one { HasOneStory }
     ensures more { MoreTurnsGoOn }
 {}

@@ -1,5 +1,6 @@
 -- The instructions of a body made ready.
 use Rattle.std.specs.Prelude.{Bool, List, false, if◌then◌else◌, map, pos, true, unwrap_or, ℕ, ℤ}
+use Rattle.avm2_code.specs.declared.body.PlacedInstruction.{PlacedInstruction}
 use Rattle.avm2_code.specs.declared.instruction.Instruction.{Instruction}
 use Rattle.avm2_code.specs.declared.instruction.Instruction.TheVariants as instruction
 use Rattle.flex_base.specs.Lists.{entry}
@@ -8,7 +9,7 @@ use Rattle.flex_world.specs.Classes.{StaticType}
 use Rattle.flex_world.specs.Objects.{count}
 use Rattle.flex_world.specs.Operators.{Operator}
 use Rattle.verified_code.specs.Operands.{is_late}
-use Rattle.avm2_program.specs.Decoding.{Decoded, instructions, target}
+use Rattle.avm2_program.specs.Decoding.{instructions, target}
 use Rattle.avm2_program.specs.Names.{Name}
 use Rattle.avm2_program.specs.Naming.{Naming, name_at, string_at, type_at}
 use Rattle.avm2_program.specs.Program.{Operation}
@@ -92,7 +93,7 @@ module _ (g : Naming) where
   operation to (instruction.DebugFile file) = Operation.Skip
 
   -- the operations of a body that has these instructions
-  abbrev pub operations_of : List Decoded → List Operation
+  abbrev pub operations_of : List PlacedInstruction → List Operation
   operations_of code = map (λ d. operation (target code d.next) d.instruction) code
 
   abbrev pub operations : List ℕ → List Operation
