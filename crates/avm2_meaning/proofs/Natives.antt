@@ -14,8 +14,12 @@ use Rattle.flex_base.specs.declared.value.Value.TheVariants as value
 use Rattle.flex_objects.specs.Entities.{EnabledBinding, RegisteredState}
 use Rattle.flex_world.specs.Events.{is_registered}
 use Rattle.flex_world.specs.Objects.{Delivery, Keeping, Listener, Object, Watcher, current_state, field_named, property, text_in}
-use Rattle.ui_runtime.specs.Documents.{Begin, Change as Requested, Kept, Nothing, binding_numbered, kept_name, over, requests, state_named, states_at}
-use Rattle.ui_runtime.specs.Properties.{Changed, Equal, Silent, Written, writes}
+use Rattle.ui_runtime.specs.Documents.{binding_numbered, kept_name, over, requests, state_named, states_at}
+use Rattle.ui_runtime.specs.Properties.{writes}
+use Rattle.ui_runtime.specs.declared.states.Change.{Change as Requested}
+use Rattle.ui_runtime.specs.declared.states.Change.TheVariants.{Begin, Kept, Nothing}
+use Rattle.ui_runtime.specs.declared.writing.Written.{Written}
+use Rattle.ui_runtime.specs.declared.writing.Written.TheVariants.{Changed, Equal, Silent}
 use Rattle.ui_runtime.specs.Stage.{inside_at, object_at}
 use Rattle.avm2_program.specs.Program.{Program}
 use Rattle.avm2_meaning.specs.Bindings.{is_busy, run_if_free, run_one, start_next, start_with, starting}
