@@ -45,7 +45,8 @@ impl Objects {
 
     // A state is registered.
     pub fn add_state(&mut self, document: ObjId, name: Text) -> Result<(), NoMemory>
-        ensures { OnOk result (self.new ≡ changed_entry (with_inside (with_state name)) self.old document.0) }
+        ensures { OnOk result (self.new ≡
+            changed_entry (with_inside (with_state name)) self.old document.0) }
     {
         match self.get_mut(document) {
             Some(entity) => entity.states.push(name),
