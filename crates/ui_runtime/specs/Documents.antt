@@ -27,16 +27,18 @@ keeping_at d s = keeping_of (entity_at d s)
 abbrev pub with_keeping : (Keeping → Keeping) → Object → Object
 with_keeping f c = record c { keeping = f c.keeping }
 
+-- the entities, of which a document keeps something else
 abbrev pub keeps_in : (Keeping → Keeping) → ObjId → List Entity → List Entity
 keeps_in f d entities = changed_entry (with_object (with_keeping f)) entities d.0
 
 abbrev pub keeps : (Keeping → Keeping) → ObjId → Stage → Stage
 keeps f d s = change d (with_keeping f) s
 
--- a binding is enabled, and its chains are watched
+-- these chains of a binding are watched too
 abbrev pub watching : ObjId → ℕ → List (List (List ℕ)) → Stage → Stage
 watching d n chains s = record s { watched = fold (λ ws chain. with_chain d n chain ws) s.watched chains }
 
+-- a binding is enabled, and its chains are watched
 abbrev pub binds : ObjId → ℕ → List (List (List ℕ)) → Stage → Stage
 binds d n chains s = keeps (with_enabled n) d (watching d n chains s)
 
