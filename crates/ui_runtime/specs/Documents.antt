@@ -27,6 +27,7 @@ keeping_at d s = keeping_of (entity_at d s)
 abbrev pub with_keeping : (Keeping → Keeping) → Object → Object
 with_keeping f c = record c { keeping = f c.keeping }
 
+-- the entities, of which a document keeps something else
 abbrev pub keeps_in : (Keeping → Keeping) → ObjId → List Entity → List Entity
 keeps_in f d entities = changed_entry (with_object (with_keeping f)) entities d.0
 

@@ -52,9 +52,10 @@ impl Stage {
     }
 
     /// Puts a component into a container, after it has left its parent: `Cycle` exactly where it is
-    /// the container or one of its ancestors, and then nothing changes. With a rank it is a declared
-    /// child, of this document and with this number: it goes directly behind its last forerunner
-    /// there, and first where it has none. Without one it goes last, and keeps its last rank.
+    /// the container or one of its ancestors, and then nothing changes. With a rank it is a
+    /// declared child, of this document and with this number: it goes directly behind its last
+    /// forerunner there, and first where it has none. Without one it goes last, and keeps its last
+    /// rank.
     pub fn place(
         &mut self,
         container: ObjId,

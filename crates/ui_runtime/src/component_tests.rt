@@ -3,7 +3,7 @@
 use crate::{Change, Placed, Stage, Written};
 use component_catalog::NativeClass;
 use flex_base::{Chain, Chains, NoMemory, ObjId, RunRefusal, Stop, Text, Value};
-use flex_objects::{ClassInfo, SlotTable};
+use flex_objects::{ClassInfo, EnabledBinding, RegisteredState, SlotTable};
 use flex_world::Class;
 use std::alloc::Global;
 use std::process::Abort;
@@ -74,7 +74,12 @@ fn bind(alloc: Global, stage: &mut Stage, property: &str) -> Result<(), NoMemory
     chain.push(Text::make(alloc, property)?)?;
     let mut chains = Chains::new(alloc);
     chains.push(chain)?;
-    stage.bind(MAIN, 4, &chains)
+    let binding = EnabledBinding {
+        number: 4,
+        pair: None,
+        method: (MAIN, 7),
+    };
+    stage.bind(MAIN, binding, &chains)
 }
 
 // How many bindings are to start.
@@ -92,8 +97,12 @@ fn write(
 }
 
 fn add_state(alloc: Global, stage: &mut Stage, name: &str) -> Result<(), NoMemory> {
-    let name = Text::make(alloc, name)?;
-    stage.add_state(MAIN, &name)
+    let state = RegisteredState {
+        name: Text::make(alloc, name)?,
+        leave: (MAIN, 1),
+        enter: (MAIN, 2),
+    };
+    stage.register(MAIN, state)
 }
 
 // What comes of a state that is asked for.
@@ -172,6 +181,7 @@ fn bindings_are_watched_and_open(rt: HostRuntime) -> Result<(), Fail> {
     let mut stage = groups(alloc, 1)?;
     bind(alloc, &mut stage, "visible")?;
     assert!(rt; stage.is_enabled(MAIN, 4) && !stage.is_enabled(MAIN, 3));
+    assert!(rt; matches!(stage.binding(MAIN, 4), Some(binding) if binding.method == (MAIN, 7)));
     let started = write(alloc, &mut stage, "visible", Value::Bool(false)).ok();
     assert_eq!(rt; started, Some(1));
     stage.open(MAIN, 4)?;
@@ -189,7 +199,9 @@ fn a_state_that_is_asked_for_meanwhile_is_kept(rt: HostRuntime) -> Result<(), Fa
         add_state(alloc, &mut stage, name)?;
     }
     assert!(rt; matches!(stage.first_state(MAIN), Some(name) if name.as_str() == "a"));
+    assert!(rt; !stage.has_begun(MAIN));
     stage.begin(MAIN);
+    assert!(rt; stage.has_begun(MAIN));
     assert_eq!(rt; enter(alloc, &mut stage, "a", "").ok(), Some(true));
     assert_eq!(rt; request(alloc, &mut stage, "b").ok(), Some(Change::Begin));
     assert_eq!(rt; request(alloc, &mut stage, "a").ok(), Some(Change::Kept));

@@ -45,7 +45,8 @@ impl Objects {
 
     // A state is registered.
     pub fn register(&mut self, document: ObjId, state: RegisteredState) -> Result<(), NoMemory>
-        ensures { OnOk result (self.new ≡ changed_entry (with_inside (with_state state)) self.old document.0) }
+        ensures { OnOk result (self.new ≡
+            changed_entry (with_inside (with_state state)) self.old document.0) }
     {
         match self.get_mut(document) {
             Some(entity) => entity.states.push(state),

@@ -5,7 +5,7 @@ ghost use Rattle.flex_base.specs.Lists.{changed_entry, entry};
 ghost use Rattle.flex_world.specs.Events.{is_heard};
 ghost use Rattle.event_flow.specs.Hearing.{addition, heard_at, removal, with_listener, without_listener};
 ghost use Rattle.event_flow.specs.declared.listeners.Removal.TheVariants as removal_of;
-ghost use Rattle.ui_runtime.specs.Answers.{Gives, Hands, asked};
+ghost use Rattle.ui_runtime.specs.Answers.{Gives, Hands, Tells, asked};
 ghost use Rattle.ui_runtime.specs.Events.{has_listener, hearers_of, listens, removed, unlistens, with_listeners};
 ghost use Rattle.ui_runtime.specs.Stage.{listeners_of, with_object};
 
@@ -112,7 +112,7 @@ impl Stage {
     }
 
     /// The listeners of a node that hear an event of a type in the phase 1, 2 or 3, from high
-    /// priority to low, equal ones in order of registration.
+    /// priority to low, equal ones in order of registration. After want of memory it refuses again.
     pub fn listeners_at(
         &self,
         alloc: Global,
@@ -120,9 +120,10 @@ impl Stage {
         kind: &Text,
         phase: u8,
     ) -> Result<ListenerList, NoMemory>
-        ensures { IfOk result (λ list. list ≡ asked [] (hearers_of node kind.now phase) self.now) }
+        ensures { Tells self.now (hearers_of node kind.now phase) result }
     {
-        match self.entity(node) {
+        let state = self.state.as_ref().ok_or(NoMemory)?;
+        match state.objects.get(node) {
             Some(entity) => entity.listeners.at_node(alloc, kind, phase),
             None => Ok(ListenerList::new(alloc)),
         }

@@ -33,7 +33,8 @@ impl State {
         child: ObjId,
         rank: Option<(ObjId, u32)>,
     ) -> Result<Placed, RunRefusal>
-        ensures { Steps self.old (places container child (spot_in container rank) self.old) result self.new }
+        ensures { Steps self.old
+            (places container child (spot_in container rank) self.old) result self.new }
     {
         self.place_at(container, child, spot_in(container, rank))
     }
@@ -105,7 +106,8 @@ impl Objects {
     // A component is among the children of a container, at a place.
     fn insert_child(&mut self, container: ObjId, place: usize, child: ObjId) -> Result<(), NoMemory>
         requires { place ≤ length (children_of (entry self.old container.0)) }
-        ensures { OnOk result (self.new ≡ changed_entry (with_object (holding_at place child)) self.old container.0) }
+        ensures { OnOk result (self.new ≡
+            changed_entry (with_object (holding_at place child)) self.old container.0) }
     {
         match self.get_mut(container) {
             Some(entity) => entity.children.insert(place, child),
@@ -115,7 +117,8 @@ impl Objects {
 
     // A container is the parent of a component, which keeps its last spot where it has no new one.
     fn join(&mut self, container: ObjId, child: ObjId, spot: Option<Spot>)
-        ensures { self.new ≡ changed_entry (with_object (joined_to container spot)) self.old child.0 }
+        ensures { self.new ≡
+            changed_entry (with_object (joined_to container spot)) self.old child.0 }
     {
         match self.get_mut(child) {
             Some(entity) => entity.join(container, spot),

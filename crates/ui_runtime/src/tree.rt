@@ -87,7 +87,8 @@ impl State {
 
     // The place of a child among these.
     fn place_for(&self, spot: Option<&Spot>, children: &Children) -> usize
-        ensures place { result ≡ place_for (objects self.now) (option_copied spot.entry) children.now }
+        ensures place { result ≡
+            place_for (objects self.now) (option_copied spot.entry) children.now }
         ensures within { result ≤ length children.now }
     {
         match spot {
@@ -113,7 +114,8 @@ impl State {
 
     // Whether a child, if there is one, is a forerunner of a declared child.
     fn is_forerunner(&self, spot: Spot, child: Option<ObjId>) -> bool
-        ensures { result ≡ is_forerunner spot (option_and_then (λ o. object_at o self.now) child) }
+        ensures { result ≡
+            is_forerunner spot (option_and_then (λ o. object_at o self.now) child) }
     {
         let Some(child) = child else {
             return false;
