@@ -7,7 +7,7 @@ use Rattle.flex_base.specs.declared.record.TraceItem.{TraceItem}
 use Rattle.avm2_program.specs.Program.{Program}
 use Rattle.avm2_program.specs.Resolving.{program}
 use Rattle.avm2_meaning.specs.GoingOn.{HasOneStory, MoreTurnsGoOn}
-use Rattle.avm2_meaning.specs.Trace.{HasTrace, Ongoing, Over, Playing, Progress, advance, continue, first, run}
+use Rattle.avm2_meaning.specs.Trace.{Ongoing, Over, Playing, Progress, advance, continue, first, run}
 use Rattle.avm2_meaning.proofs.MoreTurns.{Extends, goes_on, stays}
 
 module _ (p : Program) (name : List ℕ) where

@@ -1,7 +1,7 @@
 -- What a move of a frame comes to.
 use Rattle.std.specs.Prelude.{Bool, List, None, Option, Some, false, true, ℕ, ◌∷◌}
 use Rattle.flex_base.specs.declared.record.TraceItem.{TraceItem}
-use Rattle.avm2_meaning.specs.Frames.{Native, Work, keeps}
+use Rattle.avm2_meaning.specs.Frames.{Native, Work}
 use Rattle.avm2_meaning.specs.Heap.{Heap}
 use Rattle.avm2_meaning.specs.Operands.{Operand}
 use Rattle.avm2_meaning.specs.Results.{Goes, Result}

@@ -7,7 +7,6 @@ use Rattle.abc_format.specs.declared.records.MethodInfo.{MethodInfo}
 use Rattle.abc_format.specs.declared.records.Multiname.TheVariants as multiname
 use Rattle.abc_format.specs.declared.records.Namespace.{Namespace}
 use Rattle.abc_format.specs.declared.records.NamespaceKind.TheVariants as namespace_kind
-use Rattle.component_catalog.specs.Classes.{classes}
 use Rattle.flex_base.specs.declared.event.UserEvent.TheVariants as user
 use Rattle.flex_base.specs.declared.outcome.Outcome.TheVariants.{Ended, TurnsSpent}
 use Rattle.flex_base.specs.declared.record.TraceItem.TheVariants as trace

@@ -5,8 +5,6 @@ use Rattle.flex_base.specs.declared.event.Arrival.{Arrival}
 use Rattle.flex_base.specs.declared.event.UserEvent.{UserEvent}
 use Rattle.flex_base.specs.declared.value.ObjId.{ObjId}
 use Rattle.flex_world.specs.Objects.{Listener, Watcher}
-use Rattle.ui_runtime.specs.Stage.{change}
-use Rattle.ui_runtime.specs.Tree.{child}
 use Rattle.avm2_meaning.specs.Operands.{Operand}
 
 -- what an instruction sees of the body that runs

@@ -2,7 +2,6 @@
 use Rattle.std.specs.List.{list_any}
 use Rattle.std.specs.Prelude.{Bool, List, None, Option, Some, option_and_then, option_map, slice_get, ℕ, ◌&&◌, ◌==◌}
 use Rattle.avm2_program.specs.Program.{TraitPlace}
-use Rattle.component_catalog.specs.Classes.{classes}
 use Rattle.flex_base.specs.Lists.{changed_at}
 use Rattle.flex_base.specs.Value.{is_object}
 use Rattle.flex_base.specs.declared.value.ObjId.{ObjId}

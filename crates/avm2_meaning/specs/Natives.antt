@@ -21,7 +21,7 @@ use Rattle.ui_runtime.specs.Tree.{child}
 use Rattle.avm2_meaning.specs.Classes.{is_container_object, is_event_object, is_of}
 use Rattle.avm2_meaning.specs.Conversions.{native_arguments, object_number}
 use Rattle.avm2_meaning.specs.Dispatch.{begin_dispatch}
-use Rattle.avm2_meaning.specs.Effects.{Acted, Next, effect, recorded, silent}
+use Rattle.avm2_meaning.specs.Effects.{Acted, Next, recorded, silent}
 use Rattle.avm2_meaning.specs.Elements.{add, take_out}
 use Rattle.avm2_meaning.specs.Frames.{Dispatch, Native, keeps}
 use Rattle.avm2_meaning.specs.Heap.{Heap, on_stage}

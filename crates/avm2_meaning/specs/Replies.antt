@@ -2,7 +2,7 @@
 use Rattle.std.specs.Prelude.{Bool, None, Option, Some}
 use Rattle.flex_base.specs.declared.value.Value.{Value}
 use Rattle.flex_base.specs.declared.value.Value.TheVariants as value
-use Rattle.avm2_meaning.specs.Effects.{Acted, Effect, Next, acted, answered, effect, silent}
+use Rattle.avm2_meaning.specs.Effects.{Acted, Effect, Next, acted, answered, silent}
 use Rattle.avm2_meaning.specs.Frames.{Work, keeps}
 use Rattle.avm2_meaning.specs.Heap.{Heap}
 use Rattle.avm2_meaning.specs.Operands.{Plain}

@@ -5,7 +5,6 @@ use Rattle.flex_base.specs.declared.value.ObjId.{ObjId}
 use Rattle.flex_base.specs.declared.value.Value.{Value}
 use Rattle.flex_base.specs.declared.value.Value.TheVariants as value
 use Rattle.ui_runtime.specs.Documents.{kept_name, over, requests}
-use Rattle.ui_runtime.specs.Stage.{change}
 use Rattle.ui_runtime.specs.declared.states.Change.{Change as Requested}
 use Rattle.ui_runtime.specs.declared.states.Change.TheVariants.{Begin}
 use Rattle.avm2_meaning.specs.Effects.{Acted, Effect, in_place, nothing, opens}

@@ -7,7 +7,6 @@ use Rattle.abc_format.specs.declared.records.Multiname.{Multiname}
 use Rattle.abc_format.specs.declared.records.Multiname.TheVariants as multiname
 use Rattle.abc_format.specs.declared.records.Trait.{Trait}
 use Rattle.abc_format.specs.declared.records.TraitKind.TheVariants as trait_kind
-use Rattle.component_catalog.specs.Classes.{classes}
 use Rattle.flex_base.specs.Story.{Story}
 use Rattle.flex_base.specs.declared.outcome.MachineFault.TheVariants as fault
 use Rattle.flex_base.specs.declared.outcome.Outcome.{Outcome}

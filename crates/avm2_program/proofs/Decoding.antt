@@ -1,5 +1,5 @@
 -- The instructions that are decoded are those of the code, and a branch's target is found by its place.
-use Rattle.std.proofs.Common.{◌≡◌, ℕ, zero, suc, ◌+◌, ◌<◌, ◌≤◌, ℤ, pos, List, [], ◌∷◌, length, Bool, true, false, Some, Ok, Err, slice_get, refl, sym, ap, ◌∙◌, arith, int_eq, nat_lt, ltb-true, ltb-false}
+use Rattle.std.proofs.Common.{◌≡◌, ℕ, zero, suc, ◌+◌, ◌<◌, ◌≤◌, pos, List, [], ◌∷◌, length, Bool, true, false, Some, Ok, Err, slice_get, refl, ap, ◌∙◌, arith, int_eq, nat_lt, ltb-false}
 use Rattle.std.specs.Prelude.{if◌then◌else◌}
 use Rattle.std.proofs.lemmas.Bool.Decides.{Decides-int_eq}
 use Rattle.avm2_code.specs.declared.body.PlacedInstruction.{PlacedInstruction}

@@ -1,11 +1,10 @@
 -- A file made ready to play: texts, names, types and members stand where the file has numbers, and an instruction is named by its
 -- place in the order of its body.
 use Rattle.std.specs.Prelude.{Bool, List, Option, ℕ}
-use Rattle.component_catalog.specs.Classes.{classes}
 use Rattle.component_catalog.specs.declared.method.NativeMethod.{NativeMethod}
 use Rattle.flex_base.specs.declared.value.Value.{Value}
 use Rattle.flex_world.specs.Classes.{Class, StaticType}
-use Rattle.flex_world.specs.Objects.{Field, count}
+use Rattle.flex_world.specs.Objects.{Field}
 use Rattle.flex_world.specs.Operators.{Operator}
 use Rattle.avm2_program.specs.Names.{Name, OwnName}
 
