@@ -4,7 +4,7 @@ use Rattle.flex_base.specs.declared.outcome.MachineFault.{MachineFault}
 use Rattle.flex_base.specs.declared.value.ObjId.{ObjId}
 use Rattle.flex_base.specs.declared.value.Value.{Value}
 use Rattle.flex_world.specs.Classes.{Class, StaticType}
-use Rattle.avm2_program.specs.Names.{Name}
+use Rattle.avm2_program.specs.declared.names.Name.{Name}
 use Rattle.avm2_program.specs.Program.{Member, Operation, Program}
 use Rattle.avm2_meaning.specs.Act.{act, construct_value, inverted, negated_operand, on_top, pop_all, pop_operand, popped_of, property_at, return_value, same_plain, taken_off, text_of, with_receiver, without_scope}
 use Rattle.avm2_meaning.specs.Conversions.{convert}

@@ -1,7 +1,7 @@
 -- One instruction: from the work of its body and the heap to an effect, and the work and the heap as they are then.
 use Rattle.std.specs.Prelude.{Bool, List, Some, [], false, not, reverse, slice_get, suc, true, zero, ℕ, ◌∷◌}
-use Rattle.avm2_program.specs.Names.{Name}
 use Rattle.avm2_program.specs.Program.{Operation, Program}
+use Rattle.avm2_program.specs.declared.names.Name.{Name}
 use Rattle.flex_base.specs.Lists.{changed_at}
 use Rattle.flex_base.specs.Value.{to_bool, to_text}
 use Rattle.flex_base.specs.declared.outcome.MachineFault.TheVariants as fault

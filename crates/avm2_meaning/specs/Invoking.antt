@@ -1,7 +1,7 @@
 -- Calls, constructors and `newclass`: for code that has taken its operands.
 use Rattle.std.specs.Prelude.{Bool, List, None, Option, Some, [], false, is_none, is_some, not, true, ℕ, ◌||◌, ◌∷◌}
-use Rattle.avm2_program.specs.Names.{Name}
 use Rattle.avm2_program.specs.Program.{FileClass, Member, Program, TraitPlace}
+use Rattle.avm2_program.specs.declared.names.Name.{Name}
 use Rattle.component_catalog.specs.declared.class.NativeClass.{NativeClass}
 use Rattle.flex_base.specs.declared.outcome.MachineFault.TheVariants as fault
 use Rattle.flex_base.specs.declared.outcome.Stop.TheVariants as stop

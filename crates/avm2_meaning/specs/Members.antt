@@ -2,9 +2,10 @@
 use Rattle.std.specs.List.{find}
 use Rattle.std.specs.Prelude.{Bool, List, None, Option, Some, [], codes, false, if◌then◌else◌, is_some, length, option_and_then, option_map, slice_get, suc, true, unwrap_or, zero, ℕ, ◌&&◌, ◌++◌, ◌∷◌}
 use Rattle.std.specs.Str.{bytes_eq}
-use Rattle.avm2_program.specs.Names.{Name, has_space, names_it, public_space, runtime_space}
+use Rattle.avm2_program.specs.Names.{has_space, names_it, public_space, runtime_space}
 use Rattle.avm2_program.specs.Naming.{native_type}
 use Rattle.avm2_program.specs.Program.{FileClass, Member, NamedMember, Program, RuntimeCall, Script}
+use Rattle.avm2_program.specs.declared.names.Name.{Name}
 use Rattle.component_catalog.specs.Classes.{or_else}
 use Rattle.component_catalog.specs.Methods.{Row, method_of as catalog_method}
 use Rattle.component_catalog.specs.Properties.{property_of}

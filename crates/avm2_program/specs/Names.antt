@@ -5,23 +5,10 @@ use Rattle.std.specs.Str.{bytes_eq}
 use Rattle.abc_format.specs.Kinds.{namespace_kind_byte}
 use Rattle.abc_format.specs.declared.records.NamespaceKind.{NamespaceKind}
 use Rattle.abc_format.specs.declared.records.NamespaceKind.TheVariants as namespace_kind
-
--- a namespace: private ones are told apart by their numbers, and the kinds 08 and 16 count as one
-pub data Space : Type 0 where
-  -- number 0, which no namespace equals but itself
-  Absent : Space
-  Private : (number : ℕ) → Space
-  Of_kind : (kind : NamespaceKind) (text : List ℕ) → Space
-
--- a name that code looks up: its text, and the namespaces where it is looked for
-pub record Name : Type 0 where
-  pub text : List ℕ
-  pub spaces : List Space
-
--- the name that a class or a trait has itself
-pub record OwnName : Type 0 where
-  pub text : List ℕ
-  pub space : Space
+use Rattle.avm2_program.specs.declared.names.Name.{Name}
+use Rattle.avm2_program.specs.declared.names.OwnName.{OwnName}
+use Rattle.avm2_program.specs.declared.names.Space.{Space}
+use Rattle.avm2_program.specs.declared.names.Space.TheVariants.{Absent, OfKind, Private}
 
 -- the kind as which a kind counts
 abbrev pub told_as : NamespaceKind → NamespaceKind
@@ -34,12 +21,12 @@ same_kind a b = namespace_kind_byte (told_as a) == namespace_kind_byte (told_as 
 abbrev pub same_space : Space → Space → Bool
 same_space Absent Absent = true
 same_space (Private a) (Private b) = a == b
-same_space (Of_kind a s) (Of_kind b t) = same_kind a b && bytes_eq s t
+same_space (OfKind a s) (OfKind b t) = same_kind a b && bytes_eq s t
 same_space _ _ = false
 
 -- the namespace of a package
 abbrev pub package_space : List ℕ → Space
-package_space text = Of_kind namespace_kind.PackageNamespace text
+package_space text = OfKind namespace_kind.PackageNamespace text
 
 abbrev pub public_space : Space
 public_space = package_space []

@@ -1,6 +1,6 @@
 -- The names, namespaces and types of a file, read from its constant pool. A number that the reader of files excludes gives something
 -- empty.
-use Rattle.std.specs.List.{find}
+use Rattle.std.specs.List.{find, position}
 use Rattle.std.specs.Prelude.{Bool, List, None, Option, Some, [], codes, false, if◌then◌else◌, map, option_and_then, option_map, suc, true, unwrap_or, zero, ℕ, ◌&&◌, ◌++◌, ◌∷◌}
 use Rattle.std.specs.Str.{bytes_eq}
 use Rattle.abc_format.specs.declared.records.Abc.{Abc}
@@ -15,16 +15,19 @@ use Rattle.component_catalog.specs.declared.class.NativeClass.{NativeClass}
 use Rattle.component_catalog.specs.declared.class.NativeClass.TheVariants as native
 use Rattle.flex_base.specs.Lists.{entry}
 use Rattle.flex_world.specs.Classes.{Class, StaticType}
-use Rattle.avm2_program.specs.Names.{Absent, Name, Of_kind, OwnName, Private, Space, has_space, nameless, names_it, package_space, public_space}
+use Rattle.avm2_program.specs.Names.{has_space, nameless, names_it, package_space, public_space}
+use Rattle.avm2_program.specs.declared.names.Name.{Name}
+use Rattle.avm2_program.specs.declared.names.OwnName.{OwnName}
+use Rattle.avm2_program.specs.declared.names.Space.{Space}
+use Rattle.avm2_program.specs.declared.names.Space.TheVariants.{Absent, OfKind, Private}
 
 abbrev pub space_with : ℕ → NamespaceKind → List ℕ → Space
 space_with number namespace_kind.PrivateNs text = Private number
-space_with number kind text = Of_kind kind text
+space_with number kind text = OfKind kind text
 
--- the number of the first class that a name names, from a number on
-abbrev pub class_numbered : Name → ℕ → List (Option OwnName) → Option ℕ
-class_numbered n k [] = None
-class_numbered n k (own ∷ owns) = if names_it n own then Some k else class_numbered n (suc k) owns
+-- the number of the first class that a name names
+abbrev pub class_numbered : Name → List (Option OwnName) → Option ℕ
+class_numbered n owns = position (names_it n) owns
 
 -- states are no classes of code
 abbrev pub is_class_of_code : NativeClass → Bool
@@ -116,11 +119,11 @@ pub record Naming : Type 0 where
 abbrev pub naming : Abc → Naming
 naming abc = record { abc = abc; class_names = map (λ (instance : InstanceInfo). own_name_at abc instance.name) abc.instances }
 
--- the class that a name names as a type: the first of the file, made or not, or else one of the native script
-abbrev pub type_named : Naming → Name → Option StaticType
-type_named g n = or_else (option_map (λ k. StaticType.Object (Class.File k)) (class_numbered n 0 g.class_names)) (native_type n)
+-- the class that a name names as a type, where the classes of the file have these names: the first of them, made or not, or else one of the native script
+abbrev pub type_named : List (Option OwnName) → Name → Option StaticType
+type_named owns n = or_else (option_map (λ k. StaticType.Object (Class.File k)) (class_numbered n owns)) (native_type n)
 
 -- the type of a number; 0 is no type
 abbrev pub type_at : Naming → ℕ → StaticType
 type_at g zero = StaticType.Any
-type_at g (suc n) = unwrap_or (type_named g (name_at g.abc (suc n))) StaticType.Unnamed
+type_at g (suc n) = unwrap_or (type_named g.class_names (name_at g.abc (suc n))) StaticType.Unnamed

@@ -10,9 +10,9 @@ use Rattle.flex_world.specs.Objects.{count}
 use Rattle.flex_world.specs.Operators.{Operator}
 use Rattle.verified_code.specs.Operands.{is_late}
 use Rattle.avm2_program.specs.Decoding.{instructions, target}
-use Rattle.avm2_program.specs.Names.{Name}
 use Rattle.avm2_program.specs.Naming.{Naming, name_at, string_at, type_at}
 use Rattle.avm2_program.specs.Program.{Operation}
+use Rattle.avm2_program.specs.declared.names.Name.{Name}
 
 module _ (g : Naming) where
   abbrev pub name : ℕ → Name

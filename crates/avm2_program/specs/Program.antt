@@ -6,7 +6,8 @@ use Rattle.flex_base.specs.declared.value.Value.{Value}
 use Rattle.flex_world.specs.Classes.{Class, StaticType}
 use Rattle.flex_world.specs.Objects.{Field}
 use Rattle.flex_world.specs.Operators.{Operator}
-use Rattle.avm2_program.specs.Names.{Name, OwnName}
+use Rattle.avm2_program.specs.declared.names.Name.{Name}
+use Rattle.avm2_program.specs.declared.names.OwnName.{OwnName}
 
 -- an instruction that is ready
 pub data Operation : Type 0 where

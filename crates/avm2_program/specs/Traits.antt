@@ -12,9 +12,10 @@ use Rattle.flex_base.specs.declared.value.Value.TheVariants as value
 use Rattle.flex_world.specs.Classes.{StaticType}
 use Rattle.flex_world.specs.Making.{start_of_type}
 use Rattle.flex_world.specs.Objects.{Field}
-use Rattle.avm2_program.specs.Names.{Space, lies_in_space, public_space, runtime_space}
+use Rattle.avm2_program.specs.Names.{lies_in_space, public_space, runtime_space}
 use Rattle.avm2_program.specs.Naming.{Naming, own_name_at, string_at, text_at, type_at}
 use Rattle.avm2_program.specs.Program.{Member, NamedMember, TraitPlace}
+use Rattle.avm2_program.specs.declared.names.Space.{Space}
 
 abbrev pub is_slot : TraitKind → Bool
 is_slot (trait_kind.Slot slot type vindex vkind) = true
