@@ -36,7 +36,7 @@ stops cause h = Halts (Stopped cause)
 abbrev pub faults : {A : Type 0} → MachineFault → Heap → Result A
 faults f h = Halts (Fault f)
 
--- what verified code never lacks: the code needs what the machine doesn't have
+-- something isn't there that the verifier or the load is to see to: the code needs what the machine doesn't have
 abbrev pub lacks : {A : Type 0} → Heap → Result A
 lacks h = faults fault.NotHere h
 

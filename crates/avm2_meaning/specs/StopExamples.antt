@@ -1,4 +1,4 @@
--- How small files end: each machine fault, and most stops.
+-- How small files end: each machine fault, and nine of the twelve stops.
 use Rattle.std.specs.Prelude.{List, Option, Some, [], codes, option_map, pos, ℕ, ◌∷◌, ◌≡◌}
 use Rattle.abc_format.specs.declared.records.Abc.{Abc}
 use Rattle.abc_format.specs.declared.records.ConstantPool.{ConstantPool}
@@ -95,5 +95,5 @@ pub record StopsByCause : Type 0 where
   pub depth : ends_with 300 (0xD0 ∷ 0x4F ∷ 10 ∷ 0 ∷ 0x47 ∷ []) (body 3 (0xD0 ∷ 0x4F ∷ 10 ∷ 0 ∷ 0x47 ∷ []) ∷ []) ≡ Some (Stopped stop.Depth)
   -- a loop without end: `label`, and back to it
   pub turns_spent : ends (0x09 ∷ 0x10 ∷ 0xFB ∷ 0xFF ∷ 0xFF ∷ []) ≡ Some TurnsSpent
-  -- null goes into every type of objects, and an empty array has no last element
+  -- null goes into every type of objects
   pub null_converted : ends (0xD0 ∷ 0x66 ∷ 5 ∷ 0x80 ∷ 2 ∷ 0x29 ∷ 0x47 ∷ []) ≡ Some Ended

@@ -17,7 +17,7 @@ pub fn laws_of_plays()
 {}
 
 /// What small files come to, by computation: an application that traces a text, with turns and
-/// without, and a file for each machine fault and for most stops.
+/// without, and a file for each machine fault and for nine of the twelve stops.
 pub fn small_files_mean()
     ensures greeting { GreetingPlays }
     ensures spent { SpentPlays }
