@@ -1,5 +1,5 @@
 -- The first word of access.
-use Rattle.std.proofs.Common.{◌≡◌, ◌∙◌, List, ◌∷◌, sym, ap, Bool, true, false}
+use Rattle.std.proofs.Common.{◌≡◌, ◌∙◌, List, ◌∷◌, sym, ap, true, false}
 use Rattle.std.specs.Prelude.{if◌then◌else◌}
 use Rattle.as3_parser.specs.declared.tree.Modifier.{Modifier}
 use Rattle.source_sites.specs.Functions.{access_of, is_access}

@@ -1,8 +1,9 @@
 -- A member from a class upward.
-use Rattle.std.proofs.Common.{◌≡◌, ◌∙◌, ℕ, zero, suc, List, ◌-◌, ◌<◌, ap, refl, sym, arith}
+use Rattle.std.proofs.Common.{◌≡◌, ◌∙◌, ℕ, zero, suc, ◌-◌, ◌<◌, ap, refl, sym, arith}
 use Rattle.std.specs.Prelude.{Option, Some, None, option_map}
 use Rattle.component_catalog.specs.Classes.{or_else}
-use Rattle.flex_world.specs.Classes.{Class, base_in, upward_in}
+use Rattle.flex_world.specs.Classes.{base_in, upward_in}
+use Rattle.flex_world.specs.declared.kind.Class.{Class}
 use Rattle.source_sites.specs.Texts.{Text}
 use Rattle.source_sites.specs.Members.{Found, Owned, Table}
 use Rattle.source_sites.specs.LookUps.{member_among, member_named, own_members}

@@ -12,7 +12,7 @@ use Rattle.component_catalog.specs.declared.method.NativeMethod.{NativeMethod}
 use Rattle.component_catalog.specs.Classes.{base_of, nearest, or_else, upward}
 use Rattle.component_catalog.specs.Properties.{Property, own_property, properties, property_of}
 use Rattle.component_catalog.specs.Methods.{NamedMethod, Row, method_of, methods, own_method, row}
-use Rattle.flex_world.specs.Classes as world
+use Rattle.flex_world.specs.declared.kind.Class.TheVariants as Class
 use Rattle.source_sites.specs.Texts.{Text}
 use Rattle.source_sites.specs.Types.{may_be_left_out, parameter_type, result_type_of}
 use Rattle.source_sites.specs.Members.{A_method, Owned, Table}
@@ -106,13 +106,13 @@ module _ (name : Text) where
       missing_step m ms (has_method m) (no_method ms) e ∙ ap (λ b. cond b (Some (native_function m)) (among_methods ms)) (nat_list_eq_equiv.symm name m.name)
 
   module _ (t : Table) (c : NativeClass) where
-    pub a_property : (r : PropertyRow) → Some r ≡ own_property c name → Some (as_property r) ≡ member_named name (own_members t (world.Class.Native c))
+    pub a_property : (r : PropertyRow) → Some r ≡ own_property c name → Some (as_property r) ≡ member_named name (own_members t (Class.Native c))
     a_property r e = found_property (map native_function (methods c)) (properties c) r e
 
-    pub a_method : (r : Row) → None ≡ own_property c name → Some r ≡ option_map row (own_method c name) → Some (as_function r) ≡ member_named name (own_members t (world.Class.Native c))
+    pub a_method : (r : Row) → None ≡ own_property c name → Some r ≡ option_map row (own_method c name) → Some (as_function r) ≡ member_named name (own_members t (Class.Native c))
     a_method r none e = found_method (methods c) r e ∙ no_property (map native_function (methods c)) (properties c) none
 
-    pub no_member : None ≡ own_property c name → None ≡ option_map row (own_method c name) → None ≡ member_named name (own_members t (world.Class.Native c))
+    pub no_member : None ≡ own_property c name → None ≡ option_map row (own_method c name) → None ≡ member_named name (own_members t (Class.Native c))
     no_member none e = no_method (methods c) e ∙ no_property (map native_function (methods c)) (properties c) none
 
   -- a property that is named among a class's own is its own

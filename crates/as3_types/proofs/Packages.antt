@@ -1,5 +1,5 @@
 -- The namespaces of packages.
-use Rattle.std.proofs.Common.{◌≡◌, ◌∙◌, ◌≢◌, ℕ, ◌+◌, ◌-◌, List, [], ◌∷◌, ◌++◌, length, take, drop, refl, ap, sym, Bool, true, false, ◌&&◌, not, bytes_eq, codes, length-append, arith}
+use Rattle.std.proofs.Common.{◌≡◌, ◌∙◌, ◌≢◌, ℕ, ◌+◌, ◌-◌, List, ◌++◌, length, take, drop, refl, ap, sym, Bool, true, false, ◌&&◌, not, bytes_eq, codes, length-append, arith}
 use Rattle.std.specs.Prelude.{if◌then◌else◌, nat_le, nat_lt, ◌==◌}
 use Rattle.std.proofs.Math.Seq.{take-append_seam, drop-append_seam}
 use Rattle.std.proofs.lemmas.List.{take-append-drop}
@@ -7,7 +7,7 @@ use Rattle.std.proofs.lemmas.Bool.Decides.{nat_tests}
 use Rattle.std.proofs.lemmas.Slice.Eq.{bytes_eq-Decides}
 use Rattle.source_sites.specs.declared.names.NamedClass.{NamedClass}
 use Rattle.source_sites.specs.Texts.{Text, cut_end, ends_with}
-use Rattle.source_sites.specs.Names.{Meaning, No_class, class_in}
+use Rattle.source_sites.specs.Names.{No_class, class_in}
 use Rattle.as3_types.specs.Meanings.{class_of_package}
 
 abbrev dot_star : Text

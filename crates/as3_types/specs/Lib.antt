@@ -3,3 +3,4 @@ pub mod Types
 pub mod Natives
 pub mod Tables
 pub mod Identifiers
+pub mod Clauses

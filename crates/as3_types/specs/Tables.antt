@@ -1,11 +1,8 @@
 -- The class table that the code keeps, and what its look-ups find.
-use Rattle.std.specs.Prelude.{List, map, length, Option, option_map, false, true}
+use Rattle.std.specs.Prelude.{map, length, option_map, false, true}
 use Rattle.std.specs.List.{filter}
 use Rattle.component_catalog.specs.declared.method.MethodRow.{MethodRow}
-use Rattle.component_catalog.specs.declared.property.PropertyRow.{PropertyRow}
-use Rattle.component_catalog.specs.Properties as catalog
 use Rattle.as3_parser.specs.declared.tree.Modifier.TheVariants as modifier
-use Rattle.flex_world.specs.Kinds.{class_of}
 use Rattle.source_sites.specs.Texts.{Text}
 use Rattle.source_sites.specs.Types as sites
 use Rattle.source_sites.specs.Types.{parameter_type, may_be_left_out, result_type_of}
@@ -19,7 +16,6 @@ use Rattle.as3_types.specs.declared.table.ClassTable.{ClassTable}
 use Rattle.as3_types.specs.declared.look_ups.Found.{Found}
 use Rattle.as3_types.specs.declared.look_ups.Found.TheVariants as found
 use Rattle.as3_types.specs.declared.look_ups.FoundMember.{FoundMember}
-use Rattle.as3_types.specs.Meanings.{bases_of}
 use Rattle.as3_types.specs.Types.{type_of, signature_as}
 
 abbrev pub kind_of : Text → OwnKind → members.Kind
@@ -30,13 +26,13 @@ abbrev pub owned_of : OwnMember → members.Owned
 owned_of m = record { name = m.name; access = m.access; kind = kind_of m.name m.kind }
 
 abbrev pub event_of : OwnEvent → members.Event
-event_of e = record { name = e.name; class = class_of e.«class» }
+event_of e = record { name = e.name; class = e.«class» }
 
 abbrev pub table_of : ClassTable → members.Table
 table_of t =
     record {
       names = t.classes;
-      bases = bases_of t.bases;
+      bases = t.bases;
       constructors = map (option_map signature_as) t.constructors;
       members = map (map owned_of) t.members;
       events = map (map event_of) t.events;
@@ -59,4 +55,4 @@ member_as name (found.Method m) =
     record { name = name; access = modifier.Public; kind = members.A_method (record { name = name; signature = signature_of_row m; native = true }) }
 
 abbrev pub found_as : Text → FoundMember → members.Found
-found_as name f = record { owner = class_of f.owner; member = member_as name f.member }
+found_as name f = record { owner = f.owner; member = member_as name f.member }

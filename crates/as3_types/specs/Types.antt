@@ -1,6 +1,5 @@
 -- The types that the code keeps, and the functions that it reads.
 use Rattle.std.specs.Prelude.{List, [], ◌∷◌, Option, None, map}
-use Rattle.flex_world.specs.Kinds.{class_of}
 use Rattle.as3_parser.specs.declared.tree.Lexeme.{Lexeme}
 use Rattle.as3_parser.specs.declared.tree.Parameter as p
 use Rattle.as3_parser.specs.declared.tree.ResultType as r
@@ -20,7 +19,7 @@ type_of type.Int = sites.ValueType.Int
 type_of type.Boolean = sites.ValueType.Boolean
 type_of type.String = sites.ValueType.String
 type_of type.Array = sites.ValueType.Array
-type_of (type.Object c) = sites.ValueType.Object (class_of c)
+type_of (type.Object c) = sites.ValueType.Object c
 type_of type.Any = sites.ValueType.Any
 type_of type.Nothing = sites.ValueType.Nothing
 type_of type.Void = sites.ValueType.Void

@@ -6,7 +6,8 @@ ghost use Rattle.source_sites.specs.Names.{path_at};
 ghost use Rattle.source_sites.specs.Sites.{first_site};
 ghost use Rattle.source_sites.specs.Trees.{class_file_of, path_of};
 ghost use Rattle.class_sites.specs.ClassSites.{base_sites, class_file_sites, package_text, root_sites, wrong_package};
-ghost use Rattle.as3_types.specs.Meanings.{bases_of, meaning_of};
+ghost use Rattle.as3_types.specs.Meanings.{meaning_of};
+ghost use Rattle.as3_types.specs.Clauses.{class_file_site, package_site, root_site};
 
 use crate::bases::{base_cycle, not_application, wrong_root};
 use crate::imports::{class_at, package_of};
@@ -31,9 +32,8 @@ pub fn check_class_file(
     parsed: &ParsedClass,
     base: Meaning,
 ) -> Result<Option<Site>, NoMemory>
-    requires few { length bases.now < 4294967296 }
-    requires within { file < length classes.now }
-    ensures { IfOk result (λ site. site ≡ first_site file (class_file_sites classes.now (bases_of bases.now) file here.now (class_file_of parsed.now) (meaning_of base))) }
+    requires { file < length classes.now }
+    ensures { IfOk result (λ site. site ≡ class_file_site classes.now bases.now file here.now parsed.now base) }
 {
     let name_at = parsed.file.class.name.span.start;
     let package = wrong_package(alloc, file, here, parsed)?;
@@ -54,9 +54,8 @@ pub fn check_root(
     at: usize,
     base: Meaning,
 ) -> Option<Site>
-    requires few { length bases.now < 4294967296 }
-    requires within { file < length classes.now }
-    ensures { result ≡ first_site file (root_sites classes.now (bases_of bases.now) file here.now at (meaning_of base)) }
+    requires { file < length classes.now }
+    ensures { result ≡ root_site classes.now bases.now file here.now at base }
 {
     let duplicate = duplicate_class(classes, file, here, at);
     let unknown = unknown_base(file, at, base);
@@ -73,7 +72,7 @@ pub fn wrong_package(
     here: &NamedClass,
     parsed: &ParsedClass,
 ) -> Result<Option<Site>, NoMemory>
-    ensures { IfOk result (λ site. site ≡ first_site file (wrong_package here.now (class_file_of parsed.now) ∷ [])) }
+    ensures { IfOk result (λ site. site ≡ package_site file here.now parsed.now) }
 {
     let package = package_text(alloc, &parsed.file.package_name)?;
     let holds = package.as_str() == here.folder.as_str();
@@ -87,7 +86,6 @@ pub fn written_base(
     here: &NamedClass,
     base: &Option<Vec<Lexeme>>,
 ) -> Result<Meaning, NoMemory>
-    requires { length classes.now < 4294967296 }
     ensures { IfOk result (λ m. meaning_of m ≡ written_base classes.now here.now (path_of base.now)) }
 {
     match base {

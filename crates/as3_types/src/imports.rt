@@ -1,6 +1,6 @@
 // What the names in the code of a class mean.
 
-ghost use Rattle.std.specs.Prelude.{◌≡◌, ◌<◌, ◌||◌, IfOk, length, map};
+ghost use Rattle.std.specs.Prelude.{◌≡◌, ◌||◌, IfOk};
 ghost use Rattle.std.specs.List.{list_any};
 ghost use Rattle.std.specs.Str.{bytes_eq};
 ghost use Rattle.flex_base.specs.Events.{path_text};
@@ -24,7 +24,6 @@ pub fn class_at(
     here: &NamedClass,
     path: &[Lexeme],
 ) -> Result<Meaning, NoMemory>
-    requires { length classes.now < 4294967296 }
     ensures { IfOk result (λ m. meaning_of m ≡ class_at classes.now here.now (path_names path.now)) }
 {
     let Some((last, early)) = path.split_last() else {
@@ -35,7 +34,7 @@ pub fn class_at(
         return bare_class(alloc, classes, here, name);
     }
     let folder = package_of(alloc, early)?;
-    Ok(class_in(classes, folder.as_str(), name))
+    class_in(classes, folder.as_str(), name)
 }
 
 /// The class that a bare name in the code of a class names: one of its own package, else of its
@@ -46,10 +45,9 @@ pub fn bare_class(
     here: &NamedClass,
     name: &str,
 ) -> Result<Meaning, NoMemory>
-    requires { length classes.now < 4294967296 }
     ensures { IfOk result (λ m. meaning_of m ≡ bare_class classes.now here.now name.now) }
 {
-    let own = class_in(classes, here.folder.as_str(), name);
+    let own = class_in(classes, here.folder.as_str(), name)?;
     if own.is_found() {
         return Ok(own);
     }
@@ -67,7 +65,6 @@ fn imported_by(
     name: &str,
     imports: &[Import],
 ) -> Result<Meaning, NoMemory>
-    requires { length classes.now < 4294967296 }
     ensures { IfOk result (λ m. meaning_of m ≡ imported_by classes.now name.now imports.now) }
 {
     let mut rest = imports;
@@ -89,7 +86,6 @@ fn imported(
     name: &str,
     path: &[Text],
 ) -> Result<Meaning, NoMemory>
-    requires { length classes.now < 4294967296 }
     ensures { IfOk result (λ m. meaning_of m ≡ imported classes.now name.now path.now) }
 {
     let Some((last, early)) = path.split_last() else {
@@ -100,7 +96,7 @@ fn imported(
     }
     if names(last.as_str(), name) {
         let folder = folder_of(alloc, early)?;
-        return Ok(class_in(classes, folder.as_str(), name));
+        return class_in(classes, folder.as_str(), name);
     }
     Ok(Meaning::NoClass)
 }
@@ -118,8 +114,8 @@ fn has_star(names: &[Text]) -> bool
     names.iter().any(|name| is_star(name.as_str()))
 }
 
-// Names with dots between them.
-fn folder_of(alloc: Global, names: &[Text]) -> Result<Text, NoMemory>
+/// Names with dots between them, as a package is written.
+pub fn folder_of(alloc: Global, names: &[Text]) -> Result<Text, NoMemory>
     ensures { IfOk result (λ text. text ≡ path_text names.now) }
 {
     let mut path = Names::new(alloc);

@@ -8,16 +8,15 @@ ghost use Rattle.as3_types.specs.declared.table.ClassTable.{ClassTable};
 ghost use Rattle.component_catalog.specs.Methods as catalog_methods;
 ghost use Rattle.component_catalog.specs.Methods.{row, row_of};
 ghost use Rattle.component_catalog.specs.Properties as catalog_properties;
-ghost use Rattle.flex_world.specs.Classes as world;
-ghost use Rattle.flex_world.specs.Kinds.{class_of};
+ghost use Rattle.flex_world.specs.declared.kind.Class.TheVariants as Class;
 ghost use Rattle.source_sites.specs.LookUps.{member_named, member_of, own_members};
 ghost use Rattle.source_sites.specs.Members.{nth_list};
 ghost use Rattle.source_sites.specs.Types.{may_be_left_out, native_type, parameter_type, result_type_of};
 ghost use Rattle.as3_types.specs.Natives.{declares_method};
 ghost use Rattle.as3_types.specs.Tables.{found_as, member_as, owned_of, signature_of_row, table_of};
 ghost use Rattle.as3_types.specs.Types.{signature_as, type_of};
+ghost use Rattle.as3_types.specs.Clauses.{member_found, own_named};
 
-use crate::bases::{CATALOG_LEVELS, base_of};
 use crate::table::{ClassTable, OwnMember};
 use crate::types::{Signature, ValueType};
 use component_catalog::{
@@ -25,7 +24,7 @@ use component_catalog::{
     method_of, property_names, property_of,
 };
 use flex_base::{NoMemory, Sequence};
-use flex_world::Class;
+use flex_world::{CATALOG_LEVELS, Class, base_of};
 use std::alloc::Global;
 
 /// A member that was found by its name.
@@ -49,7 +48,7 @@ pub struct FoundMember<'a> {
 /// The member of the nearest class, from this one upward, that has the name.
 #[tactic(auto, using(crate::proofs::Inherited::none_left))]
 pub fn member_of<'a>(table: &'a ClassTable, class: Class, name: &str) -> Option<FoundMember<'a>>
-    ensures { option_map (found_as name.now) result ≡ member_of (table_of table.now) (class_of class) name.now }
+    ensures { option_map (found_as name.now) result ≡ member_found table.now class name.now }
 {
     let mut level = Some(class);
     let mut left = table.bases.len() + CATALOG_LEVELS;
@@ -69,7 +68,7 @@ pub fn member_of<'a>(table: &'a ClassTable, class: Class, name: &str) -> Option<
 
 /// The member of this name that a class declares itself.
 pub fn own_member<'a>(table: &'a ClassTable, class: Class, name: &str) -> Option<Found<'a>>
-    ensures { option_map (member_as name.now) result ≡ member_named name.now (own_members (table_of table.now) (class_of class)) }
+    ensures { option_map (member_as name.now) result ≡ own_named table.now class name.now }
 {
     match class {
         Class::Native(class) => native_member(class, name),
@@ -94,7 +93,7 @@ fn first_named<'a>(members: &'a [OwnMember], name: &str) -> Option<&'a OwnMember
 }
 
 fn native_member<'a>(class: NativeClass, name: &str) -> Option<Found<'a>>
-    ensures { (table : ClassTable) → option_map (member_as name.now) result ≡ member_named name.now (own_members (table_of table) (world.Class.Native class)) }
+    ensures { (table : ClassTable) → option_map (member_as name.now) result ≡ member_named name.now (own_members (table_of table) (Class.Native class)) }
 {
     if let Some(row) = own_property(class, name) {
         return Some(Found::Property(row));

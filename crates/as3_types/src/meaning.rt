@@ -1,10 +1,11 @@
 // What the names of classes mean, in the source set and in the catalog.
 
-ghost use Rattle.std.specs.Prelude.{◌≡◌, ◌+◌, ◌<◌, length};
+ghost use Rattle.std.specs.Prelude.{◌≡◌, IfOk};
 ghost use Rattle.source_sites.specs.Names.{as_native, catalog_class, catalog_class_in, class_in, class_of_tag, is_class, is_named, number_of, source_class};
 ghost use Rattle.as3_types.specs.Meanings.{class_of_package, meaning_of};
 
 use component_catalog::NativeClass;
+use flex_base::NoMemory;
 use flex_world::Class;
 use mxml_tree::Element;
 use source_sites::NamedClass;
@@ -35,41 +36,42 @@ impl Meaning {
 }
 
 /// A class by its full name: the first source of that name, else one of the catalog.
-pub fn class_in(classes: &[NamedClass], folder: &str, name: &str) -> Meaning
-    requires { length classes.now < 4294967296 }
-    ensures { meaning_of result ≡ class_in classes.now folder.now name.now }
+pub fn class_in(classes: &[NamedClass], folder: &str, name: &str) -> Result<Meaning, NoMemory>
+    ensures { IfOk result (λ m. meaning_of m ≡ class_in classes.now folder.now name.now) }
 {
-    match source_class(classes, folder, name) {
-        Meaning::NoClass => catalog_class_in(folder, name),
-        Meaning::State => Meaning::State,
-        Meaning::Class(class) => Meaning::Class(class),
+    match source_class(classes, folder, name)? {
+        Meaning::NoClass => Ok(catalog_class_in(folder, name)),
+        Meaning::State => Ok(Meaning::State),
+        Meaning::Class(class) => Ok(Meaning::Class(class)),
     }
 }
 
-/// The first source class of a full name.
-pub fn source_class(classes: &[NamedClass], folder: &str, name: &str) -> Meaning
-    requires { length classes.now < 4294967296 }
-    ensures { meaning_of result ≡ source_class classes.now folder.now name.now }
+/// The first source class of a full name. Its number past 4,294,967,295 is answered by want of
+/// memory.
+pub fn source_class(classes: &[NamedClass], folder: &str, name: &str) -> Result<Meaning, NoMemory>
+    ensures { IfOk result (λ m. meaning_of m ≡ source_class classes.now folder.now name.now) }
 {
-    match number_named(classes, folder, name) {
-        Some(number) => Meaning::Class(Class::File(number)),
-        None => Meaning::NoClass,
-    }
+    let Some(place) = place_named(classes, folder, name) else {
+        return Ok(Meaning::NoClass);
+    };
+    let Ok(number) = u32::try_from(place) else {
+        return Err(NoMemory);
+    };
+    Ok(Meaning::Class(Class::File(number)))
 }
 
-// The number of the first class of a full name.
+// The place of the first class of a full name.
 #[tactic(auto, using(crate::proofs::Numbers::numbered_here, crate::proofs::Numbers::numbered_behind))]
-fn number_named(classes: &[NamedClass], folder: &str, name: &str) -> Option<u32>
-    requires { length classes.now < 4294967296 }
+fn place_named(classes: &[NamedClass], folder: &str, name: &str) -> Option<usize>
     ensures { result ≡ number_of (is_named folder.now name.now) 0 classes.now }
 {
-    let mut number = 0;
+    let mut place = 0;
     let mut rest = classes;
     while let Some((class, others)) = rest.split_first() {
         if is_named(class, folder, name) {
-            return Some(number);
+            return Some(place);
         }
-        number += 1;
+        place += 1;
         rest = others;
     }
     None
@@ -108,14 +110,13 @@ fn native_meaning(class: Option<NativeClass>) -> Meaning
 
 /// The class of a tag, by its namespace: those of the catalog, the sources of the unnamed package,
 /// or the classes of a package, as `model.*`.
-pub fn class_of_tag(classes: &[NamedClass], tag: &Element) -> Meaning
-    requires { length classes.now < 4294967296 }
-    ensures { meaning_of result ≡ class_of_tag classes.now tag.now }
+pub fn class_of_tag(classes: &[NamedClass], tag: &Element) -> Result<Meaning, NoMemory>
+    ensures { IfOk result (λ m. meaning_of m ≡ class_of_tag classes.now tag.now) }
 {
     let space = tag.space.as_str();
     let name = tag.local.as_str();
     if space == SPARK {
-        catalog_class(name)
+        Ok(catalog_class(name))
     } else if space == "*" {
         source_class(classes, "", name)
     } else {
@@ -124,15 +125,14 @@ pub fn class_of_tag(classes: &[NamedClass], tag: &Element) -> Meaning
 }
 
 // The class of a tag whose namespace names a package.
-fn class_of_package(classes: &[NamedClass], space: &str, name: &str) -> Meaning
-    requires { length classes.now < 4294967296 }
-    ensures { meaning_of result ≡ class_of_package classes.now space.now name.now }
+fn class_of_package(classes: &[NamedClass], space: &str, name: &str) -> Result<Meaning, NoMemory>
+    ensures { IfOk result (λ m. meaning_of m ≡ class_of_package classes.now space.now name.now) }
 {
     let Some(folder) = space.strip_suffix(".*") else {
-        return Meaning::NoClass;
+        return Ok(Meaning::NoClass);
     };
     if folder.is_empty() {
-        return Meaning::NoClass;
+        return Ok(Meaning::NoClass);
     }
     class_in(classes, folder, name)
 }

@@ -6,7 +6,6 @@ ghost use Rattle.source_sites.specs.Names.{catalog_class, catalog_class_in, is_c
 ghost use Rattle.source_sites.specs.Sites.{first_site, rule};
 ghost use Rattle.source_sites.specs.Trees.{class_file_of};
 ghost use Rattle.class_sites.specs.ClassSites.{duplicate_class, has_own_name, is_document_class, may_be_extended, unknown_base, wrong_base, wrong_class_name};
-ghost use Rattle.flex_world.specs.Kinds.{class_of};
 ghost use Rattle.as3_types.specs.Meanings.{meaning_of};
 
 use crate::meaning::{Meaning, catalog_class, catalog_class_in, is_named};
@@ -82,7 +81,7 @@ fn may_be_extended(classes: &[NamedClass], base: Meaning) -> bool
 
 /// Whether a class is that of a document.
 pub fn is_document_class(classes: &[NamedClass], class: Class) -> bool
-    ensures { result ≡ is_document_class classes.now (class_of class) }
+    ensures { result ≡ is_document_class classes.now class }
 {
     match class {
         Class::Native(_) => false,

@@ -4,7 +4,7 @@ ghost use Rattle.std.specs.Prelude.{◌<◌, length};
 
 use crate::types::{Signature, ValueType};
 use as3_parser::Modifier;
-use flex_base::{Sequence, Text};
+use flex_base::{Bytes, Sequence, Text};
 use flex_world::Class;
 use source_sites::NamedClass;
 
@@ -27,7 +27,8 @@ pub struct OwnMember {
 /// An event that objects of a source class send, and the class of the event.
 #[derive(Drop)]
 pub struct OwnEvent {
-    pub name: Text,
+    /// Its bytes, which are UTF-8 where the metadata are made of tokens.
+    pub name: Bytes,
     pub class: Class,
 }
 
@@ -41,6 +42,5 @@ pub struct ClassTable {
     /// The members of each class, in text order, without the constructor.
     pub members: Sequence<Sequence<OwnMember>>,
     pub events: Sequence<Sequence<OwnEvent>>,
-    pub ghost few_classes: { length classes < 4294967296 },
     pub ghost few_bases: { length bases < 4294967296 },
 }

@@ -48,7 +48,8 @@ fn classes(alloc: Global) -> Result<Vec<NamedClass>, NoMemory>
     Ok(classes)
 }
 
-// What names joined by dots mean in the code of B.as: the number of a source class, or 9 for UIComponent.
+// What names joined by dots mean in the code of B.as: the number of a source class, or 9 for
+// UIComponent.
 fn meant(alloc: Global, names: &[&str]) -> Result<Option<u32>, NoMemory> {
     let classes = classes(alloc)?;
     let mut path = Vec::new(alloc);

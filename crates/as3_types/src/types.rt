@@ -11,6 +11,7 @@ ghost use Rattle.as3_parser.specs.declared.tree.Parameter.{Parameter};
 ghost use Rattle.as3_parser.specs.declared.tree.ResultType.{ResultType};
 ghost use Rattle.as3_types.specs.Meanings.{meaning_of};
 ghost use Rattle.as3_types.specs.Types.{built_in_path, function_of, signature_as, type_of, type_of_parameter};
+ghost use Rattle.as3_types.specs.Clauses.{IsSignature, NamesConstructor};
 
 use crate::imports::class_at;
 use crate::meaning::Meaning;
@@ -57,7 +58,6 @@ pub fn type_at(
     here: &NamedClass,
     path: &[Lexeme],
 ) -> Result<ValueType, NoMemory>
-    requires { length classes.now < 4294967296 }
     ensures { IfOk result (λ t. type_of t ≡ type_at classes.now here.now (path_names path.now)) }
 {
     if let Some(found) = bare_type(path) {
@@ -109,8 +109,7 @@ pub fn signature_of(
     parameters: &[Parameter],
     given: &Option<ResultType>,
 ) -> Result<Signature, NoMemory>
-    requires { length classes.now < 4294967296 }
-    ensures { IfOk result (λ s. (locals : List TypedName) → signature_as s ≡ signature_of classes.now here.now (function_of name.now parameters.now given.now locals)) }
+    ensures { IfOk result (IsSignature classes.now here.now name.now parameters.now given.now) }
 {
     let types = parameter_types(alloc, classes, here, parameters)?;
     let result = result_type(alloc, classes, here, name, given)?;
@@ -127,7 +126,6 @@ fn parameter_types(
     here: &NamedClass,
     parameters: &[Parameter],
 ) -> Result<Sequence<ValueType>, NoMemory>
-    requires { length classes.now < 4294967296 }
     ensures { IfOk result (λ types. map type_of types ≡ map (type_of_parameter classes.now here.now) parameters.now) }
 {
     let mut types = Sequence::new(alloc);
@@ -145,7 +143,6 @@ fn result_type(
     name: &Lexeme,
     given: &Option<ResultType>,
 ) -> Result<ValueType, NoMemory>
-    requires { length classes.now < 4294967296 }
     ensures { IfOk result (λ t. (parameters : List Parameter) (locals : List TypedName) → type_of t ≡ result_type classes.now here.now (function_of name.now parameters given.now locals) (result_of given.now)) }
 {
     match given {
@@ -158,7 +155,7 @@ fn result_type(
 
 /// Whether a function of this name is a constructor of a class.
 pub fn is_constructor(here: &NamedClass, name: &Lexeme) -> bool
-    ensures { (parameters : List Parameter) (given : Option ResultType) (locals : List TypedName) → result ≡ is_constructor here.now (function_of name.now parameters given locals) }
+    ensures { NamesConstructor here.now name.now result }
 {
     name.text.as_str() == here.name.as_str()
 }

@@ -157,7 +157,7 @@ fn has_early_star(import: &Import) -> bool
 fn has_star(steps: &[ImportStep]) -> bool
     ensures { result ≡ list_any (λ step. bytes_eq star (step_name step)) steps.now }
 {
-    steps.iter().any(|step| is_star(name_of(step)))
+    steps.iter().any(|step| is_star(step_name(step)))
 }
 
 /// Whether a name is that of a star.
@@ -168,7 +168,7 @@ pub fn is_star(name: &str) -> bool
 }
 
 /// The name of a step, in which a star is the text `*`.
-pub fn name_of(step: &ImportStep) -> &str
+pub fn step_name(step: &ImportStep) -> &str
     ensures { result.now ≡ step_name step.now }
 {
     match step {

@@ -14,7 +14,10 @@ use Rattle.verified_code.proofs.SoundLaws.{verified_lists_are_sound}
 use Rattle.avm2_program.specs.Decoding.{instructions, number_at, target}
 use Rattle.avm2_program.specs.Naming.{Naming, naming}
 use Rattle.avm2_program.specs.Operations.{is_late_name, name, operation, operations}
-use Rattle.avm2_program.specs.Program.{Body, Method, Operation, Program}
+use Rattle.avm2_program.specs.declared.method.Body.{Body}
+use Rattle.avm2_program.specs.declared.method.Method.{Method}
+use Rattle.avm2_program.specs.declared.operation.Operation.{Operation}
+use Rattle.avm2_program.specs.declared.file.Program.{Program}
 use Rattle.avm2_program.specs.Resolving.{body_at, methods_from, program}
 use Rattle.avm2_program.specs.Resolving.{body_of as resolved}
 use Rattle.avm2_program.proofs.Decoding.{are_instructions, found_at, none_stands, some_same}

@@ -1,7 +1,7 @@
 -- The machine of a program whose branches lead well comes to rest: by turns, by code, and by native work.
 use Rattle.std.proofs.Common.{◌≡◌, refl, ap, ℕ, zero, suc, ◌<◌, ◌≤◌, Bool, true, false, List, Option, Some, None, arith}
 use Rattle.flex_base.specs.declared.outcome.Outcome.{Outcome}
-use Rattle.avm2_program.specs.Program.{Program}
+use Rattle.avm2_program.specs.declared.file.Program.{Program}
 use Rattle.avm2_meaning.specs.Machine.{Machine, is_idle}
 use Rattle.avm2_meaning.specs.Step.{step}
 use Rattle.avm2_meaning.proofs.Branches.{BodiesLeadWell}

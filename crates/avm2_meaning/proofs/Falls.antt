@@ -7,20 +7,35 @@ use Rattle.flex_base.specs.declared.outcome.Outcome.TheVariants.{Fault, Stopped,
 use Rattle.flex_base.specs.declared.outcome.Stop.TheVariants as stop
 use Rattle.flex_base.specs.declared.value.ObjId.{ObjId}
 use Rattle.flex_world.specs.Objects.{is_number_among, without_number}
-use Rattle.avm2_program.specs.Program.{Body, Method, Operation, Program, Script}
+use Rattle.avm2_program.specs.declared.method.Body.{Body}
+use Rattle.avm2_program.specs.declared.method.Method.{Method}
+use Rattle.avm2_program.specs.declared.operation.Operation.{Operation}
+use Rattle.avm2_program.specs.declared.file.Program.{Program}
+use Rattle.avm2_program.specs.declared.file.Script.{Script}
 use Rattle.avm2_program.proofs.Decoding.{some_same}
 use Rattle.avm2_meaning.specs.Act.{act}
 use Rattle.avm2_meaning.specs.Apply.{apply, enter, give, give_if, initialise, land, leave, leave_code, open_body, open_call, proceed, with_heap}
 use Rattle.avm2_meaning.specs.Calls.{call_of, initialiser, prepare}
 use Rattle.avm2_meaning.specs.Classes.{body_of, file_class_at, file_shape}
-use Rattle.avm2_meaning.specs.Effects.{Acted, Call, Next}
-use Rattle.avm2_meaning.specs.Frames.{CodeFrame, Frame, Native, Work, keeps}
-use Rattle.avm2_meaning.specs.Heap.{Heap}
+use Rattle.avm2_meaning.specs.Effects.{Acted}
+use Rattle.avm2_meaning.specs.declared.effect.Call.{Call}
+use Rattle.avm2_meaning.specs.declared.effect.Next.{Next}
+use Rattle.avm2_meaning.specs.declared.effect.Next.TheVariants as Next
+use Rattle.avm2_meaning.specs.Frames.{keeps}
+use Rattle.avm2_meaning.specs.declared.frame.CodeFrame.{CodeFrame}
+use Rattle.avm2_meaning.specs.declared.frame.Frame.{Frame}
+use Rattle.avm2_meaning.specs.declared.frame.Frame.TheVariants as Frame
+use Rattle.avm2_meaning.specs.declared.frame.Native.{Native}
+use Rattle.avm2_meaning.specs.declared.frame.Native.TheVariants as Native
+use Rattle.avm2_meaning.specs.declared.work.Work.{Work}
+use Rattle.avm2_meaning.specs.declared.heap.Heap.{Heap}
 use Rattle.avm2_meaning.specs.Load.{complete_main, land_main, land_script, load_on, load_script, main_class, make_main}
 use Rattle.avm2_meaning.specs.Machine.{CompletesMain, Load, Loaded, Machine, MakesMain, Scripts, above, is_idle, is_idle_with, over_with, spend}
 use Rattle.avm2_meaning.specs.Making.{allocate_as, construct_file}
 use Rattle.avm2_meaning.specs.Moves.{as_code, as_native, execute, go_on, moves, place_after, stands, target_or}
-use Rattle.avm2_meaning.specs.Operands.{Operand, ScriptValue, ref}
+use Rattle.avm2_meaning.specs.Operands.{ref}
+use Rattle.avm2_meaning.specs.declared.operand.Operand.{Operand}
+use Rattle.avm2_meaning.specs.declared.operand.Operand.TheVariants.{ScriptValue}
 use Rattle.avm2_meaning.specs.Results.{Goes, Halts, Result, mapped, need}
 use Rattle.avm2_meaning.specs.Step.{step, step_on}
 use Rattle.avm2_meaning.proofs.Branches.{BodiesLeadWell, LeadsOn}

@@ -1,9 +1,18 @@
 -- What remains of a play: code until the next turn, native work and the load.
 use Rattle.std.specs.Prelude.{ℕ, zero, suc, ◌+◌, ◌-◌, ◌<◌, ◌≤◌, ◌≡◌, List, [], ◌∷◌, length, Bool, true, false, if◌then◌else◌, Option, Some, None, slice_get}
 use Rattle.flex_base.specs.declared.outcome.Outcome.{Outcome}
-use Rattle.avm2_program.specs.Program.{Body, Method, Operation, Program, Script}
+use Rattle.avm2_program.specs.declared.method.Body.{Body}
+use Rattle.avm2_program.specs.declared.method.Method.{Method}
+use Rattle.avm2_program.specs.declared.operation.Operation.{Operation}
+use Rattle.avm2_program.specs.declared.file.Program.{Program}
+use Rattle.avm2_program.specs.declared.file.Script.{Script}
 use Rattle.avm2_meaning.specs.Classes.{body_of}
-use Rattle.avm2_meaning.specs.Frames.{ChangeStep, Frame, Native}
+use Rattle.avm2_meaning.specs.declared.frame.ChangeStep.{ChangeStep}
+use Rattle.avm2_meaning.specs.declared.frame.ChangeStep.TheVariants as ChangeStep
+use Rattle.avm2_meaning.specs.declared.frame.Frame.{Frame}
+use Rattle.avm2_meaning.specs.declared.frame.Frame.TheVariants as Frame
+use Rattle.avm2_meaning.specs.declared.frame.Native.{Native}
+use Rattle.avm2_meaning.specs.declared.frame.Native.TheVariants as Native
 use Rattle.avm2_meaning.specs.Machine.{CompletesMain, Load, Loaded, Machine, MakesMain, Scripts}
 
 abbrev pub is_label : Operation → Bool

@@ -3,17 +3,22 @@ use Rattle.std.proofs.Common.{◌≡◌, refl, ℕ, zero, suc, List, [], ◌∷�
 use Rattle.flex_base.specs.declared.outcome.MachineFault.{MachineFault}
 use Rattle.flex_base.specs.declared.value.ObjId.{ObjId}
 use Rattle.flex_base.specs.declared.value.Value.{Value}
-use Rattle.flex_world.specs.Classes.{Class, StaticType}
+use Rattle.flex_world.specs.declared.kind.Class.TheVariants as Class
+use Rattle.flex_world.specs.declared.kind.StaticType.{StaticType}
 use Rattle.avm2_program.specs.declared.names.Name.{Name}
-use Rattle.avm2_program.specs.Program.{Member, Operation, Program}
+use Rattle.avm2_program.specs.declared.member.Member.{Member}
+use Rattle.avm2_program.specs.declared.operation.Operation.{Operation}
+use Rattle.avm2_program.specs.declared.file.Program.{Program}
 use Rattle.avm2_meaning.specs.Act.{act, construct_value, inverted, negated_operand, on_top, pop_all, pop_operand, popped_of, property_at, return_value, same_plain, taken_off, text_of, with_receiver, without_scope}
 use Rattle.avm2_meaning.specs.Conversions.{convert}
 use Rattle.avm2_meaning.specs.Effects.{Acted}
-use Rattle.avm2_meaning.specs.Frames.{Work}
-use Rattle.avm2_meaning.specs.Heap.{Heap}
+use Rattle.avm2_meaning.specs.declared.work.Work.{Work}
+use Rattle.avm2_meaning.specs.declared.heap.Heap.{Heap}
 use Rattle.avm2_meaning.specs.Invoking.{begin_base_event, call_base, call_member, construct_base, new_class, no_arguments}
 use Rattle.avm2_meaning.specs.Making.{construct}
-use Rattle.avm2_meaning.specs.Operands.{ClassValue, Natives, Operand, Plain, ScriptValue, undefined}
+use Rattle.avm2_meaning.specs.Operands.{undefined}
+use Rattle.avm2_meaning.specs.declared.operand.Operand.{Operand}
+use Rattle.avm2_meaning.specs.declared.operand.Operand.TheVariants.{ClassValue, Natives, Plain, ScriptValue}
 use Rattle.avm2_meaning.specs.Replies.{Reply, finish, with_reply}
 use Rattle.avm2_meaning.specs.Results.{Goes, Halts, Result, bind, choose, mapped, need, or_fault}
 

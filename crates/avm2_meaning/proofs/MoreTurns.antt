@@ -8,12 +8,21 @@ use Rattle.flex_base.specs.declared.outcome.Outcome.TheVariants.{Ended, TurnsSpe
 use Rattle.flex_base.specs.declared.record.TraceItem.{TraceItem}
 use Rattle.flex_base.specs.declared.value.ObjId.{ObjId}
 use Rattle.flex_world.specs.Objects.{is_number_among, without_number}
-use Rattle.avm2_program.specs.Program.{Body, Program, Script}
-use Rattle.avm2_meaning.specs.Operands.{Operand, ScriptValue}
+use Rattle.avm2_program.specs.declared.method.Body.{Body}
+use Rattle.avm2_program.specs.declared.file.Program.{Program}
+use Rattle.avm2_program.specs.declared.file.Script.{Script}
+use Rattle.avm2_meaning.specs.declared.operand.Operand.{Operand}
+use Rattle.avm2_meaning.specs.declared.operand.Operand.TheVariants.{ScriptValue}
 use Rattle.avm2_meaning.specs.Results.{Goes, Halts, Result}
 use Rattle.avm2_meaning.specs.Classes.{body_of}
-use Rattle.avm2_meaning.specs.Frames.{Frame, keeps}
-use Rattle.avm2_meaning.specs.Effects.{Acted, Call, Effect, Next}
+use Rattle.avm2_meaning.specs.Frames.{keeps}
+use Rattle.avm2_meaning.specs.declared.frame.Frame.{Frame}
+use Rattle.avm2_meaning.specs.declared.frame.Frame.TheVariants as Frame
+use Rattle.avm2_meaning.specs.Effects.{Acted}
+use Rattle.avm2_meaning.specs.declared.effect.Call.{Call}
+use Rattle.avm2_meaning.specs.declared.effect.Effect.{Effect}
+use Rattle.avm2_meaning.specs.declared.effect.Next.{Next}
+use Rattle.avm2_meaning.specs.declared.effect.Next.TheVariants as Next
 use Rattle.avm2_meaning.specs.Calls.{initialiser}
 use Rattle.avm2_meaning.specs.Making.{construct_file}
 use Rattle.avm2_meaning.specs.Moves.{moves}

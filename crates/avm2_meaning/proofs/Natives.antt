@@ -14,25 +14,39 @@ use Rattle.flex_base.specs.declared.value.Value.TheVariants as value
 use Rattle.flex_objects.specs.Entities.{EnabledBinding, RegisteredState}
 use Rattle.flex_world.specs.Events.{is_registered}
 use Rattle.flex_world.specs.Objects.{Delivery, Keeping, Listener, Object, Watcher, current_state, field_named, property, text_in}
-use Rattle.ui_runtime.specs.Documents.{binding_numbered, kept_name, over, requests, state_named, states_at}
+use Rattle.stage_objects.specs.Documents.{binding_numbered, state_named}
+use Rattle.ui_runtime.specs.Documents.{kept_name, over, requests, states_at}
 use Rattle.ui_runtime.specs.Properties.{writes}
 use Rattle.ui_runtime.specs.declared.states.Change.{Change as Requested}
 use Rattle.ui_runtime.specs.declared.states.Change.TheVariants.{Begin, Kept, Nothing}
 use Rattle.ui_runtime.specs.declared.writing.Written.{Written}
 use Rattle.ui_runtime.specs.declared.writing.Written.TheVariants.{Changed, Equal, Silent}
 use Rattle.ui_runtime.specs.Stage.{inside_at, object_at}
-use Rattle.avm2_program.specs.Program.{Program}
+use Rattle.avm2_program.specs.declared.file.Program.{Program}
 use Rattle.avm2_meaning.specs.Bindings.{is_busy, run_if_free, run_one, start_next, start_with, starting}
 use Rattle.avm2_meaning.specs.Calls.{call_listener, call_method, call_of, prepare}
 use Rattle.avm2_meaning.specs.Classes.{is_component_object}
 use Rattle.avm2_meaning.specs.Dispatch.{announce, arrive, as_dispatch, begin_dispatch, deliver, dispatch_on, end_dispatch, hear, send}
-use Rattle.avm2_meaning.specs.Effects.{Acted, Call, Effect, Next, acted, closes, effect, goes_on, in_place, in_place_by, recorded}
+use Rattle.avm2_meaning.specs.Effects.{Acted, acted, closes, effect, goes_on, in_place, in_place_by, recorded}
+use Rattle.avm2_meaning.specs.declared.effect.Call.{Call}
+use Rattle.avm2_meaning.specs.declared.effect.Effect.{Effect}
+use Rattle.avm2_meaning.specs.declared.effect.Next.{Next}
+use Rattle.avm2_meaning.specs.declared.effect.Next.TheVariants as Next
 use Rattle.avm2_meaning.specs.Elements.{added_item, empty_on, tell_from}
-use Rattle.avm2_meaning.specs.Frames.{Adding, Change, ChangeStep, Dispatch, Native}
-use Rattle.avm2_meaning.specs.Heap.{Heap, on_stage}
+use Rattle.avm2_meaning.specs.declared.frame.Adding.{Adding}
+use Rattle.avm2_meaning.specs.declared.frame.Change.{Change}
+use Rattle.avm2_meaning.specs.declared.frame.ChangeStep.{ChangeStep}
+use Rattle.avm2_meaning.specs.declared.frame.ChangeStep.TheVariants as ChangeStep
+use Rattle.avm2_meaning.specs.declared.frame.Dispatch.{Dispatch}
+use Rattle.avm2_meaning.specs.declared.frame.Native.{Native}
+use Rattle.avm2_meaning.specs.declared.frame.Native.TheVariants as Native
+use Rattle.avm2_meaning.specs.Heap.{on_stage}
+use Rattle.avm2_meaning.specs.declared.heap.Heap.{Heap}
 use Rattle.avm2_meaning.specs.Making.{make_event}
 use Rattle.avm2_meaning.specs.Moves.{call_of_state, change_step, change_with, go_on}
-use Rattle.avm2_meaning.specs.Operands.{Operand, Plain, ref}
+use Rattle.avm2_meaning.specs.Operands.{ref}
+use Rattle.avm2_meaning.specs.declared.operand.Operand.{Operand}
+use Rattle.avm2_meaning.specs.declared.operand.Operand.TheVariants.{Plain}
 use Rattle.avm2_meaning.specs.Properties.{starting_all, stored_as, watcher_of, written_item}
 use Rattle.avm2_meaning.specs.Results.{Goes, Halts, Result, bind, choose, mapped, need, or_fault, staged, test}
 use Rattle.avm2_meaning.specs.Script.{act_event, click_on, default_on, has_flag, miss, reached, request_of, takes_text, toggle, toggles, type_at_path, with_default, write_and}

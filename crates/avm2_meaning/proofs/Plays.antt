@@ -4,7 +4,7 @@ use Rattle.std.proofs.Math.Nat.{add_comm}
 use Rattle.std.specs.Prelude.{ℕ, zero, suc, ◌+◌, List, ◌++◌, Some}
 use Rattle.flex_base.specs.Story.{Story}
 use Rattle.flex_base.specs.declared.record.TraceItem.{TraceItem}
-use Rattle.avm2_program.specs.Program.{Program}
+use Rattle.avm2_program.specs.declared.file.Program.{Program}
 use Rattle.avm2_program.specs.Resolving.{program}
 use Rattle.avm2_meaning.specs.GoingOn.{HasOneStory, MoreTurnsGoOn}
 use Rattle.avm2_meaning.specs.Trace.{Ongoing, Over, Playing, Progress, advance, continue, first, run}

@@ -3,7 +3,7 @@ use Rattle.std.proofs.Common.{◌≡◌, refl, ap, ◌∙◌, ℕ, suc, List, []
 use Rattle.flex_base.specs.Story.{Story}
 use Rattle.flex_base.specs.declared.event.UserEvent.{UserEvent}
 use Rattle.flex_base.specs.declared.record.TraceItem.{TraceItem}
-use Rattle.avm2_program.specs.Program.{Program}
+use Rattle.avm2_program.specs.declared.file.Program.{Program}
 use Rattle.avm2_program.specs.Resolving.{program}
 use Rattle.avm2_meaning.specs.GoingOn.{EveryPlayEnds}
 use Rattle.avm2_meaning.specs.Load.{start}

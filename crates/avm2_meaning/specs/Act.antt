@@ -1,23 +1,30 @@
 -- One instruction: from the work of its body and the heap to an effect, and the work and the heap as they are then.
 use Rattle.std.specs.Prelude.{Bool, List, Some, [], false, not, reverse, slice_get, suc, true, zero, ℕ, ◌∷◌}
-use Rattle.avm2_program.specs.Program.{Operation, Program}
+use Rattle.avm2_program.specs.declared.operation.Operation.{Operation}
+use Rattle.avm2_program.specs.declared.file.Program.{Program}
 use Rattle.avm2_program.specs.declared.names.Name.{Name}
 use Rattle.flex_base.specs.Lists.{changed_at}
 use Rattle.flex_base.specs.Value.{to_bool, to_text}
 use Rattle.flex_base.specs.declared.outcome.MachineFault.TheVariants as fault
 use Rattle.flex_base.specs.declared.value.Value.TheVariants as value
 use Rattle.flex_world.specs.Objects.{count}
-use Rattle.flex_world.specs.Operators.{Operator, negated, operate}
+use Rattle.flex_world.specs.Operators.{negated, operate}
+use Rattle.flex_world.specs.declared.operator.Operator.{Operator}
 use Rattle.avm2_meaning.specs.Arrays.{element_of, write_element}
 use Rattle.avm2_meaning.specs.Classes.{method_at}
 use Rattle.avm2_meaning.specs.Conversions.{convert}
-use Rattle.avm2_meaning.specs.Effects.{Acted, Next, acted, goes_on, pushes, silent}
-use Rattle.avm2_meaning.specs.Frames.{Work, keeps}
-use Rattle.avm2_meaning.specs.Heap.{Heap}
+use Rattle.avm2_meaning.specs.Effects.{Acted, acted, goes_on, pushes, silent}
+use Rattle.avm2_meaning.specs.declared.effect.Next.{Next}
+use Rattle.avm2_meaning.specs.declared.effect.Next.TheVariants as Next
+use Rattle.avm2_meaning.specs.Frames.{keeps}
+use Rattle.avm2_meaning.specs.declared.work.Work.{Work}
+use Rattle.avm2_meaning.specs.declared.heap.Heap.{Heap}
 use Rattle.avm2_meaning.specs.Invoking.{call_member, call_super, construct_super, new_class}
 use Rattle.avm2_meaning.specs.Making.{construct, new_array}
 use Rattle.avm2_meaning.specs.Members.{found, look_up, member}
-use Rattle.avm2_meaning.specs.Operands.{ClassValue, Operand, Plain, ref, undefined}
+use Rattle.avm2_meaning.specs.Operands.{ref, undefined}
+use Rattle.avm2_meaning.specs.declared.operand.Operand.{Operand}
+use Rattle.avm2_meaning.specs.declared.operand.Operand.TheVariants.{ClassValue, Plain}
 use Rattle.avm2_meaning.specs.Properties.{read, write}
 use Rattle.avm2_meaning.specs.Results.{Goes, Result, all_plain, bind, choose, faults, given, lacks, need, or_fault, plain}
 

@@ -1,6 +1,7 @@
 -- What an effect makes of the machine: nothing else touches frames, level, turns and initialisers.
 use Rattle.std.specs.Prelude.{Bool, List, None, Option, Some, [], false, if◌then◌else◌, length, nat_lt, replicate, suc, true, ℕ, ◌++◌, ◌-◌, ◌∷◌}
-use Rattle.avm2_program.specs.Program.{Body, Program}
+use Rattle.avm2_program.specs.declared.method.Body.{Body}
+use Rattle.avm2_program.specs.declared.file.Program.{Program}
 use Rattle.flex_base.specs.declared.outcome.MachineFault.TheVariants as fault
 use Rattle.flex_base.specs.declared.outcome.Outcome.{Outcome}
 use Rattle.flex_base.specs.declared.outcome.Outcome.TheVariants.{Fault, Stopped}
@@ -8,11 +9,19 @@ use Rattle.flex_base.specs.declared.outcome.Stop.TheVariants as stop
 use Rattle.flex_base.specs.declared.record.TraceItem.{TraceItem}
 use Rattle.flex_world.specs.Objects.{is_number_among, without_number}
 use Rattle.avm2_meaning.specs.Classes.{body_of}
-use Rattle.avm2_meaning.specs.Effects.{Acted, Call, Effect, Next, with_top}
-use Rattle.avm2_meaning.specs.Frames.{CodeFrame, Frame, keeps}
-use Rattle.avm2_meaning.specs.Heap.{Heap}
+use Rattle.avm2_meaning.specs.Effects.{Acted, with_top}
+use Rattle.avm2_meaning.specs.declared.effect.Call.{Call}
+use Rattle.avm2_meaning.specs.declared.effect.Effect.{Effect}
+use Rattle.avm2_meaning.specs.declared.effect.Next.{Next}
+use Rattle.avm2_meaning.specs.declared.effect.Next.TheVariants as Next
+use Rattle.avm2_meaning.specs.Frames.{keeps}
+use Rattle.avm2_meaning.specs.declared.frame.CodeFrame.{CodeFrame}
+use Rattle.avm2_meaning.specs.declared.frame.Frame.{Frame}
+use Rattle.avm2_meaning.specs.declared.frame.Frame.TheVariants as Frame
+use Rattle.avm2_meaning.specs.declared.heap.Heap.{Heap}
 use Rattle.avm2_meaning.specs.Machine.{Machine, Moved, above, moved, over_with, take_turn, unseen}
-use Rattle.avm2_meaning.specs.Operands.{Operand, undefined}
+use Rattle.avm2_meaning.specs.Operands.{undefined}
+use Rattle.avm2_meaning.specs.declared.operand.Operand.{Operand}
 use Rattle.avm2_meaning.specs.Results.{Goes, Halts, Result}
 
 -- the receiver and the arguments come first

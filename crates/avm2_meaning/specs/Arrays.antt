@@ -9,8 +9,10 @@ use Rattle.flex_world.specs.Objects.{is_array}
 use Rattle.ui_runtime.specs.Arrays.{element, popped, pushes as appended, without_popped, writes_element}
 use Rattle.ui_runtime.specs.Stage.{Stage}
 use Rattle.avm2_meaning.specs.Conversions.{object_number}
-use Rattle.avm2_meaning.specs.Heap.{Heap, on_stage}
-use Rattle.avm2_meaning.specs.Operands.{Operand, Plain}
+use Rattle.avm2_meaning.specs.Heap.{on_stage}
+use Rattle.avm2_meaning.specs.declared.heap.Heap.{Heap}
+use Rattle.avm2_meaning.specs.declared.operand.Operand.{Operand}
+use Rattle.avm2_meaning.specs.declared.operand.Operand.TheVariants.{Plain}
 use Rattle.avm2_meaning.specs.Replies.{Reply, gives}
 use Rattle.avm2_meaning.specs.Results.{Goes, Result, bind, done, faults, on, plain, staged, stops, test}
 

@@ -1,13 +1,18 @@
 -- The runs of bindings.
 use Rattle.std.specs.Prelude.{Bool, List, None, Option, Some, [], false, ℕ, ◌||◌, ◌∷◌}
-use Rattle.avm2_program.specs.Program.{Program}
+use Rattle.avm2_program.specs.declared.file.Program.{Program}
 use Rattle.flex_objects.specs.Entities.{EnabledBinding}
 use Rattle.flex_world.specs.Objects.{Keeping, Watcher, is_number_among}
-use Rattle.ui_runtime.specs.Documents.{binding_numbered, closes as closes_binding, opens as opens_binding}
+use Rattle.stage_objects.specs.Documents.{binding_numbered}
+use Rattle.ui_runtime.specs.Documents.{closes as closes_binding, opens as opens_binding}
 use Rattle.avm2_meaning.specs.Calls.{call_listener}
-use Rattle.avm2_meaning.specs.Effects.{Acted, Effect, acted, closes, goes_on, opens}
-use Rattle.avm2_meaning.specs.Frames.{Native, Starting}
-use Rattle.avm2_meaning.specs.Heap.{Heap, on_stage}
+use Rattle.avm2_meaning.specs.Effects.{Acted, acted, closes, goes_on, opens}
+use Rattle.avm2_meaning.specs.declared.effect.Effect.{Effect}
+use Rattle.avm2_meaning.specs.declared.frame.Native.{Native}
+use Rattle.avm2_meaning.specs.declared.frame.Native.TheVariants as Native
+use Rattle.avm2_meaning.specs.declared.frame.Starting.{Starting}
+use Rattle.avm2_meaning.specs.Heap.{on_stage}
+use Rattle.avm2_meaning.specs.declared.heap.Heap.{Heap}
 use Rattle.avm2_meaning.specs.Results.{Goes, Result, bind, choose, inside, on}
 
 abbrev pub opened_run : Watcher → Heap → Heap

@@ -1,14 +1,19 @@
 -- The call of a method of the file.
 use Rattle.std.specs.Prelude.{Bool, List, [], false, length, ℕ, ◌==◌}
-use Rattle.avm2_program.specs.Program.{Program}
+use Rattle.avm2_program.specs.declared.file.Program.{Program}
 use Rattle.flex_base.specs.declared.outcome.MachineFault.TheVariants as fault
 use Rattle.flex_world.specs.Objects.{Listener}
 use Rattle.avm2_meaning.specs.Classes.{method_at}
 use Rattle.avm2_meaning.specs.Conversions.{convert_all}
-use Rattle.avm2_meaning.specs.Effects.{Call, Effect, Next, silent}
+use Rattle.avm2_meaning.specs.Effects.{silent}
+use Rattle.avm2_meaning.specs.declared.effect.Call.{Call}
+use Rattle.avm2_meaning.specs.declared.effect.Effect.{Effect}
+use Rattle.avm2_meaning.specs.declared.effect.Next.{Next}
+use Rattle.avm2_meaning.specs.declared.effect.Next.TheVariants as Next
 use Rattle.avm2_meaning.specs.Frames.{keeps}
-use Rattle.avm2_meaning.specs.Heap.{Heap}
-use Rattle.avm2_meaning.specs.Operands.{Operand, ref}
+use Rattle.avm2_meaning.specs.declared.heap.Heap.{Heap}
+use Rattle.avm2_meaning.specs.Operands.{ref}
+use Rattle.avm2_meaning.specs.declared.operand.Operand.{Operand}
 use Rattle.avm2_meaning.specs.Results.{Goes, Result, bind, need, or_fault, test}
 
 abbrev pub call_of : ℕ → Operand → List Operand → Bool → Call

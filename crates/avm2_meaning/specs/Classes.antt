@@ -1,12 +1,16 @@
 -- The classes of a file and of the catalog, and what their objects are.
 use Rattle.std.specs.Prelude.{Bool, List, Option, Some, [], false, option_and_then, option_map, slice_get, true, unwrap_or, ℕ, ◌&&◌, ◌||◌}
-use Rattle.avm2_program.specs.Program.{Body, FileClass, Method, Program}
+use Rattle.avm2_program.specs.declared.method.Body.{Body}
+use Rattle.avm2_program.specs.declared.class.FileClass.{FileClass}
+use Rattle.avm2_program.specs.declared.method.Method.{Method}
+use Rattle.avm2_program.specs.declared.file.Program.{Program}
 use Rattle.avm2_program.specs.Resolving.{kept_fields, native_behind}
 use Rattle.component_catalog.specs.Classes.{name_of}
 use Rattle.component_catalog.specs.declared.class.NativeClass.{NativeClass}
 use Rattle.component_catalog.specs.declared.class.NativeClass.TheVariants as native
 use Rattle.flex_objects.specs.Entities.{Shape}
-use Rattle.flex_world.specs.Classes.{Class, is_instance_of}
+use Rattle.flex_world.specs.Classes.{is_instance_of}
+use Rattle.flex_world.specs.declared.kind.Class.{Class}
 use Rattle.flex_world.specs.Objects.{Object, object_class}
 
 module _ (p : Program) where

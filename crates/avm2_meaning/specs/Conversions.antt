@@ -1,6 +1,6 @@
 -- Conversions into the types of places, and the arguments of calls.
 use Rattle.std.specs.Prelude.{List, [], length, ◌∷◌}
-use Rattle.avm2_program.specs.Program.{Program}
+use Rattle.avm2_program.specs.declared.file.Program.{Program}
 use Rattle.component_catalog.specs.declared.method.Parameter.{Parameter}
 use Rattle.component_catalog.specs.declared.method.Parameter.TheVariants.{Listener, Optional, Required}
 use Rattle.component_catalog.specs.declared.value.ValueType.{ValueType}
@@ -9,11 +9,13 @@ use Rattle.flex_base.specs.declared.outcome.MachineFault.TheVariants as fault
 use Rattle.flex_base.specs.declared.value.ObjId.{ObjId}
 use Rattle.flex_base.specs.declared.value.Value.{Value}
 use Rattle.flex_base.specs.declared.value.Value.TheVariants as value
-use Rattle.flex_world.specs.Classes.{StaticType, static_type}
+use Rattle.flex_world.specs.Classes.{static_type}
+use Rattle.flex_world.specs.declared.kind.StaticType.{StaticType}
 use Rattle.flex_world.specs.Conversions.{accepts, into_type, left_out}
 use Rattle.ui_runtime.specs.Stage.{objects}
-use Rattle.avm2_meaning.specs.Heap.{Heap}
-use Rattle.avm2_meaning.specs.Operands.{Operand, Plain}
+use Rattle.avm2_meaning.specs.declared.heap.Heap.{Heap}
+use Rattle.avm2_meaning.specs.declared.operand.Operand.{Operand}
+use Rattle.avm2_meaning.specs.declared.operand.Operand.TheVariants.{Plain}
 use Rattle.avm2_meaning.specs.Results.{Goes, Result, bind, faults, given, need, plain, test}
 
 module _ (p : Program) where

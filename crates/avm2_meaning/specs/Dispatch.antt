@@ -1,6 +1,6 @@
 -- The dispatch of an event: its path, and the listeners that hear it.
 use Rattle.std.specs.Prelude.{Bool, List, Some, [], codes, false, not, ℕ, ◌||◌, ◌∷◌}
-use Rattle.avm2_program.specs.Program.{Program}
+use Rattle.avm2_program.specs.declared.file.Program.{Program}
 use Rattle.component_catalog.specs.Events.{Event}
 use Rattle.flex_base.specs.Events.{arrival, phase_number}
 use Rattle.flex_base.specs.declared.event.Arrival.{Arrival}
@@ -14,11 +14,20 @@ use Rattle.ui_runtime.specs.Events.{at_node, ended, started}
 use Rattle.ui_runtime.specs.Stage.{objects}
 use Rattle.ui_runtime.specs.Tree.{path}
 use Rattle.avm2_meaning.specs.Calls.{call_of, prepare}
-use Rattle.avm2_meaning.specs.Effects.{Acted, Effect, Next, acted, closes, effect, goes_on, recorded, silent}
-use Rattle.avm2_meaning.specs.Frames.{Dispatch, Native, keeps}
-use Rattle.avm2_meaning.specs.Heap.{Heap, on_stage}
+use Rattle.avm2_meaning.specs.Effects.{Acted, acted, closes, effect, goes_on, recorded, silent}
+use Rattle.avm2_meaning.specs.declared.effect.Effect.{Effect}
+use Rattle.avm2_meaning.specs.declared.effect.Next.{Next}
+use Rattle.avm2_meaning.specs.declared.effect.Next.TheVariants as Next
+use Rattle.avm2_meaning.specs.Frames.{keeps}
+use Rattle.avm2_meaning.specs.declared.frame.Dispatch.{Dispatch}
+use Rattle.avm2_meaning.specs.declared.frame.Native.{Native}
+use Rattle.avm2_meaning.specs.declared.frame.Native.TheVariants as Native
+use Rattle.avm2_meaning.specs.Heap.{on_stage}
+use Rattle.avm2_meaning.specs.declared.heap.Heap.{Heap}
 use Rattle.avm2_meaning.specs.Making.{make_event}
-use Rattle.avm2_meaning.specs.Operands.{Operand, Plain, ref}
+use Rattle.avm2_meaning.specs.Operands.{ref}
+use Rattle.avm2_meaning.specs.declared.operand.Operand.{Operand}
+use Rattle.avm2_meaning.specs.declared.operand.Operand.TheVariants.{Plain}
 use Rattle.avm2_meaning.specs.Results.{Goes, Result, bind, choose, mapped, need, on}
 
 abbrev pub new_dispatch : ObjId → ObjId → List ℕ → List Arrival → Bool → Dispatch

@@ -1,41 +1,15 @@
 -- What a move of a frame comes to.
 use Rattle.std.specs.Prelude.{Bool, List, None, Option, Some, false, true, ℕ, ◌∷◌}
 use Rattle.flex_base.specs.declared.record.TraceItem.{TraceItem}
-use Rattle.avm2_meaning.specs.Frames.{Native, Work}
-use Rattle.avm2_meaning.specs.Heap.{Heap}
-use Rattle.avm2_meaning.specs.Operands.{Operand}
+use Rattle.avm2_meaning.specs.declared.frame.Native.{Native}
+use Rattle.avm2_meaning.specs.declared.frame.Native.TheVariants as Native
+use Rattle.avm2_meaning.specs.declared.effect.Effect.{Effect}
+use Rattle.avm2_meaning.specs.declared.effect.Next.{Next}
+use Rattle.avm2_meaning.specs.declared.effect.Next.TheVariants as Next
+use Rattle.avm2_meaning.specs.declared.work.Work.{Work}
+use Rattle.avm2_meaning.specs.declared.heap.Heap.{Heap}
+use Rattle.avm2_meaning.specs.declared.operand.Operand.{Operand}
 use Rattle.avm2_meaning.specs.Results.{Goes, Result}
-
--- a body that is to run, with arguments that are converted
-pub record Call : Type 0 where
-  pub method : ℕ
-  pub receiver : Operand
-  pub arguments : List Operand
-  -- its result goes onto the stack of the frame that is below then
-  pub keeps : Bool
-
--- what becomes of the frame that moved
-pub data Next : Type 0 where
-  -- it goes on
-  On : Next
-  -- it goes on where its instruction leads
-  Branches : Next
-  -- it takes a turn
-  Turn : Next
-  -- it is over, and has a result
-  Close : (result : Option Operand) → Next
-  -- an activity runs above it
-  Calls : (call : Call) → Next
-  -- the same of a listener: the record of the move is made only if it starts
-  Hears : (call : Call) → Next
-  -- the initialiser of a class runs above it, which is no activity
-  Initialises : (class : ℕ) (call : Call) → Next
-  -- other work is done above it
-  Opens : (native : Native) → Next
-
-pub record Effect : Type 0 where
-  pub next : Next
-  pub item : Option TraceItem
 
 -- what a move comes to, and the work as it is then
 pub record Acted (W : Type 0) : Type 0 where

@@ -7,9 +7,15 @@ use Rattle.flex_base.specs.declared.value.ObjId.{ObjId}
 use Rattle.flex_world.specs.Objects.{Spot}
 use Rattle.ui_runtime.specs.Tree.{child, places, taken_out}
 use Rattle.ui_runtime.specs.declared.children.Placed.{Placed}
-use Rattle.avm2_meaning.specs.Effects.{Acted, Effect, Next, acted, closes, effect, opens, recorded}
-use Rattle.avm2_meaning.specs.Frames.{Adding, Native}
-use Rattle.avm2_meaning.specs.Heap.{Heap, on_stage}
+use Rattle.avm2_meaning.specs.Effects.{Acted, acted, closes, effect, opens, recorded}
+use Rattle.avm2_meaning.specs.declared.effect.Effect.{Effect}
+use Rattle.avm2_meaning.specs.declared.effect.Next.{Next}
+use Rattle.avm2_meaning.specs.declared.effect.Next.TheVariants as Next
+use Rattle.avm2_meaning.specs.declared.frame.Adding.{Adding}
+use Rattle.avm2_meaning.specs.declared.frame.Native.{Native}
+use Rattle.avm2_meaning.specs.declared.frame.Native.TheVariants as Native
+use Rattle.avm2_meaning.specs.Heap.{on_stage}
+use Rattle.avm2_meaning.specs.declared.heap.Heap.{Heap}
 use Rattle.avm2_meaning.specs.Results.{Goes, Result, bind, on, staged}
 
 abbrev pub added_item : Adding → TraceItem

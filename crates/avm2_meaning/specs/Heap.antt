@@ -1,38 +1,20 @@
 -- What instructions and native moves change: the stage, and what classes and scripts keep.
 use Rattle.std.specs.List.{list_any}
 use Rattle.std.specs.Prelude.{Bool, List, None, Option, Some, option_and_then, option_map, slice_get, ℕ, ◌&&◌, ◌==◌}
-use Rattle.avm2_program.specs.Program.{TraitPlace}
+use Rattle.avm2_program.specs.declared.member.TraitPlace.{TraitPlace}
 use Rattle.flex_base.specs.Lists.{changed_at}
 use Rattle.flex_base.specs.Value.{is_object}
 use Rattle.flex_base.specs.declared.value.ObjId.{ObjId}
 use Rattle.flex_base.specs.declared.value.Value.{Value}
-use Rattle.flex_world.specs.Classes.{Class, StaticType}
+use Rattle.flex_world.specs.declared.kind.Class.TheVariants as Class
+use Rattle.flex_world.specs.declared.kind.StaticType.TheVariants as StaticType
 use Rattle.ui_runtime.specs.Stage.{Stage}
-use Rattle.avm2_meaning.specs.Operands.{ClassValue, Operand, ScriptValue}
-
--- a place for a class of the file in an object
-pub record ObjectPlace : Type 0 where
-  pub object : ObjId
-  pub place : TraitPlace
-
--- what a class or a script keeps for its own traits: the values of slots, one for each trait, and the places for classes that were written
-pub record Statics : Type 0 where
-  pub slots : List Value
-  pub written : List TraitPlace
-
--- a class that was made: the scopes that were open then, the inner first, and its own traits
-pub record MadeClass : Type 0 where
-  pub scopes : List Operand
-  pub statics : Statics
-
-pub record Heap : Type 0 where
-  pub stage : Stage
-  -- the places for classes in objects that were written
-  pub written : List ObjectPlace
-  -- one for each class of the file
-  pub classes : List (Option MadeClass)
-  -- one for each script
-  pub scripts : List Statics
+use Rattle.avm2_meaning.specs.declared.operand.Operand.{Operand}
+use Rattle.avm2_meaning.specs.declared.operand.Operand.TheVariants.{ClassValue, ScriptValue}
+use Rattle.avm2_meaning.specs.declared.heap.ObjectPlace.{ObjectPlace}
+use Rattle.avm2_meaning.specs.declared.heap.Statics.{Statics}
+use Rattle.avm2_meaning.specs.declared.heap.MadeClass.{MadeClass}
+use Rattle.avm2_meaning.specs.declared.heap.Heap.{Heap}
 
 -- the heap with its stage changed
 abbrev pub on_stage : (Stage → Stage) → Heap → Heap

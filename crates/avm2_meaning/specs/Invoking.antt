@@ -1,6 +1,9 @@
 -- Calls, constructors and `newclass`: for code that has taken its operands.
 use Rattle.std.specs.Prelude.{Bool, List, None, Option, Some, [], false, is_none, is_some, not, true, ℕ, ◌||◌, ◌∷◌}
-use Rattle.avm2_program.specs.Program.{FileClass, Member, Program, TraitPlace}
+use Rattle.avm2_program.specs.declared.class.FileClass.{FileClass}
+use Rattle.avm2_program.specs.declared.member.Member.{Member}
+use Rattle.avm2_program.specs.declared.file.Program.{Program}
+use Rattle.avm2_program.specs.declared.member.TraitPlace.{TraitPlace}
 use Rattle.avm2_program.specs.declared.names.Name.{Name}
 use Rattle.component_catalog.specs.declared.class.NativeClass.{NativeClass}
 use Rattle.flex_base.specs.declared.outcome.MachineFault.TheVariants as fault
@@ -8,18 +11,26 @@ use Rattle.flex_base.specs.declared.outcome.Stop.TheVariants as stop
 use Rattle.flex_base.specs.declared.value.ObjId.{ObjId}
 use Rattle.flex_base.specs.declared.value.Value.{Value}
 use Rattle.flex_base.specs.declared.value.Value.TheVariants as value
-use Rattle.flex_world.specs.Classes.{Class, StaticType}
+use Rattle.flex_world.specs.declared.kind.Class.TheVariants as Class
+use Rattle.flex_world.specs.declared.kind.StaticType.{StaticType}
 use Rattle.avm2_meaning.specs.Arrays.{pop, push}
 use Rattle.avm2_meaning.specs.Calls.{call_method, initialiser}
 use Rattle.avm2_meaning.specs.Classes.{body_of, file_class_at, is_event_object, owner_of}
 use Rattle.avm2_meaning.specs.Conversions.{call_class, object_number}
-use Rattle.avm2_meaning.specs.Effects.{Acted, Next, acted, goes_on, silent, with_top}
-use Rattle.avm2_meaning.specs.Frames.{Work, keeps}
-use Rattle.avm2_meaning.specs.Heap.{Heap, MadeClass, made_class, with_made}
+use Rattle.avm2_meaning.specs.Effects.{Acted, acted, goes_on, silent, with_top}
+use Rattle.avm2_meaning.specs.declared.effect.Next.{Next}
+use Rattle.avm2_meaning.specs.declared.effect.Next.TheVariants as Next
+use Rattle.avm2_meaning.specs.Frames.{keeps}
+use Rattle.avm2_meaning.specs.declared.work.Work.{Work}
+use Rattle.avm2_meaning.specs.Heap.{made_class, with_made}
+use Rattle.avm2_meaning.specs.declared.heap.Heap.{Heap}
+use Rattle.avm2_meaning.specs.declared.heap.MadeClass.{MadeClass}
 use Rattle.avm2_meaning.specs.Making.{begin_event, constructor_arguments}
 use Rattle.avm2_meaning.specs.Members.{base_member, member}
 use Rattle.avm2_meaning.specs.Natives.{call_catalog, call_trace}
-use Rattle.avm2_meaning.specs.Operands.{Operand, Plain, class_value, file_type, is_class, is_null}
+use Rattle.avm2_meaning.specs.Operands.{class_value, file_type, is_class, is_null}
+use Rattle.avm2_meaning.specs.declared.operand.Operand.{Operand}
+use Rattle.avm2_meaning.specs.declared.operand.Operand.TheVariants.{Plain}
 use Rattle.avm2_meaning.specs.Properties.{is_written_at}
 use Rattle.avm2_meaning.specs.Replies.{Reply, finish, gives}
 use Rattle.avm2_meaning.specs.Results.{Goes, Result, bind, choose, faults, mapped, need, on, or_fault, plain, stops, test}

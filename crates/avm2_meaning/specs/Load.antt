@@ -1,7 +1,9 @@
 -- The load: the script initialisers run in order, the main object is made, and it is complete.
 use Rattle.std.specs.Prelude.{List, None, Option, Some, [], false, if◌then◌else◌, is_some, length, map, replicate, slice_get, suc, ℕ, ◌&&◌, ◌∷◌}
 use Rattle.std.specs.Str.{bytes_eq}
-use Rattle.avm2_program.specs.Program.{FileClass, Program, Script}
+use Rattle.avm2_program.specs.declared.class.FileClass.{FileClass}
+use Rattle.avm2_program.specs.declared.file.Program.{Program}
+use Rattle.avm2_program.specs.declared.file.Script.{Script}
 use Rattle.component_catalog.specs.Classes.{classes}
 use Rattle.component_catalog.specs.Events.{creation_complete}
 use Rattle.flex_base.specs.declared.outcome.MachineFault.TheVariants as fault
@@ -10,12 +12,18 @@ use Rattle.flex_base.specs.declared.value.ObjId.{ObjId}
 use Rattle.ui_runtime.specs.Stage.{empty_stage}
 use Rattle.avm2_meaning.specs.Apply.{open_call, proceed, settled, with_heap}
 use Rattle.avm2_meaning.specs.Calls.{initialiser}
-use Rattle.avm2_meaning.specs.Effects.{Acted, Call}
-use Rattle.avm2_meaning.specs.Frames.{Frame, Native}
-use Rattle.avm2_meaning.specs.Heap.{Heap, MadeClass, Statics}
+use Rattle.avm2_meaning.specs.Effects.{Acted}
+use Rattle.avm2_meaning.specs.declared.effect.Call.{Call}
+use Rattle.avm2_meaning.specs.declared.frame.Frame.{Frame}
+use Rattle.avm2_meaning.specs.declared.frame.Frame.TheVariants as Frame
+use Rattle.avm2_meaning.specs.declared.frame.Native.{Native}
+use Rattle.avm2_meaning.specs.declared.frame.Native.TheVariants as Native
+use Rattle.avm2_meaning.specs.declared.heap.Heap.{Heap}
+use Rattle.avm2_meaning.specs.declared.heap.MadeClass.{MadeClass}
+use Rattle.avm2_meaning.specs.declared.heap.Statics.{Statics}
 use Rattle.avm2_meaning.specs.Machine.{CompletesMain, Load, Loaded, Machine, MakesMain, Moved, Scripts, above, over_with, unseen}
 use Rattle.avm2_meaning.specs.Making.{construct_file}
-use Rattle.avm2_meaning.specs.Operands.{ScriptValue}
+use Rattle.avm2_meaning.specs.declared.operand.Operand.TheVariants.{ScriptValue}
 use Rattle.avm2_meaning.specs.Results.{Goes, Halts, Result}
 
 abbrev pub numbers_from : {A : Type 0} → ℕ → List A → List ℕ

@@ -5,8 +5,11 @@ use Rattle.flex_base.specs.declared.outcome.Outcome.{Outcome}
 use Rattle.flex_base.specs.declared.outcome.Outcome.TheVariants.{TurnsSpent}
 use Rattle.flex_base.specs.declared.record.TraceItem.{TraceItem}
 use Rattle.flex_base.specs.declared.value.ObjId.{ObjId}
-use Rattle.avm2_meaning.specs.Frames.{Frame, Native}
-use Rattle.avm2_meaning.specs.Heap.{Heap}
+use Rattle.avm2_meaning.specs.declared.frame.Frame.{Frame}
+use Rattle.avm2_meaning.specs.declared.frame.Frame.TheVariants as Frame
+use Rattle.avm2_meaning.specs.declared.frame.Native.{Native}
+use Rattle.avm2_meaning.specs.declared.frame.Native.TheVariants as Native
+use Rattle.avm2_meaning.specs.declared.heap.Heap.{Heap}
 
 -- what of the load isn't done yet
 pub data Load : Type 0 where

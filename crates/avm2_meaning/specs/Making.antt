@@ -1,6 +1,7 @@
 -- Making objects, and the arguments of native constructors.
 use Rattle.std.specs.Prelude.{Bool, List, None, Option, Some, [], false, if◌then◌else◌, length, true, ℕ, ◌+◌, ◌∷◌}
-use Rattle.avm2_program.specs.Program.{FileClass, Program}
+use Rattle.avm2_program.specs.declared.class.FileClass.{FileClass}
+use Rattle.avm2_program.specs.declared.file.Program.{Program}
 use Rattle.component_catalog.specs.Events.{Event}
 use Rattle.component_catalog.specs.declared.class.NativeClass.{NativeClass}
 use Rattle.flex_base.specs.Value.{and_then}
@@ -12,18 +13,25 @@ use Rattle.flex_base.specs.declared.value.ObjId.{ObjId}
 use Rattle.flex_base.specs.declared.value.Value.{Value}
 use Rattle.flex_base.specs.declared.value.Value.TheVariants as value
 use Rattle.flex_objects.specs.Entities.{Entity, Shape, new_array as empty_array}
-use Rattle.flex_world.specs.Classes.{Class, StaticType, is_event}
+use Rattle.flex_world.specs.Classes.{is_event}
+use Rattle.flex_world.specs.declared.kind.Class.{Class}
+use Rattle.flex_world.specs.declared.kind.StaticType.{StaticType}
 use Rattle.flex_world.specs.Conversions.{constructor_parameters}
 use Rattle.ui_runtime.specs.Events.{initialises}
 use Rattle.ui_runtime.specs.Making.{makes, pays, takes_number}
-use Rattle.ui_runtime.specs.Stage.{with_object}
+use Rattle.stage_objects.specs.Entities.{with_object}
 use Rattle.avm2_meaning.specs.Calls.{call_of, prepare}
 use Rattle.avm2_meaning.specs.Classes.{class_name, file_class_at, file_shape, native_shape}
 use Rattle.avm2_meaning.specs.Conversions.{native_arguments}
-use Rattle.avm2_meaning.specs.Effects.{Acted, Effect, Next, acted, effect, with_top}
-use Rattle.avm2_meaning.specs.Frames.{Work}
-use Rattle.avm2_meaning.specs.Heap.{Heap, on_stage}
-use Rattle.avm2_meaning.specs.Operands.{Operand, ref}
+use Rattle.avm2_meaning.specs.Effects.{Acted, acted, effect, with_top}
+use Rattle.avm2_meaning.specs.declared.effect.Effect.{Effect}
+use Rattle.avm2_meaning.specs.declared.effect.Next.{Next}
+use Rattle.avm2_meaning.specs.declared.effect.Next.TheVariants as Next
+use Rattle.avm2_meaning.specs.declared.work.Work.{Work}
+use Rattle.avm2_meaning.specs.Heap.{on_stage}
+use Rattle.avm2_meaning.specs.declared.heap.Heap.{Heap}
+use Rattle.avm2_meaning.specs.Operands.{ref}
+use Rattle.avm2_meaning.specs.declared.operand.Operand.{Operand}
 use Rattle.avm2_meaning.specs.Results.{Goes, Result, bind, choose, done, faults, mapped, need, staged, stops}
 
 abbrev pub array_of : List Value → Entity

@@ -4,7 +4,12 @@ use Rattle.std.specs.Prelude.{Bool, List, None, Option, Some, [], codes, false, 
 use Rattle.std.specs.Str.{bytes_eq}
 use Rattle.avm2_program.specs.Names.{has_space, names_it, public_space, runtime_space}
 use Rattle.avm2_program.specs.Naming.{native_type}
-use Rattle.avm2_program.specs.Program.{FileClass, Member, NamedMember, Program, RuntimeCall, Script}
+use Rattle.avm2_program.specs.declared.class.FileClass.{FileClass}
+use Rattle.avm2_program.specs.declared.member.Member.{Member}
+use Rattle.avm2_program.specs.declared.member.NamedMember.{NamedMember}
+use Rattle.avm2_program.specs.declared.file.Program.{Program}
+use Rattle.avm2_program.specs.declared.member.RuntimeCall.{RuntimeCall}
+use Rattle.avm2_program.specs.declared.file.Script.{Script}
 use Rattle.avm2_program.specs.declared.names.Name.{Name}
 use Rattle.component_catalog.specs.Classes.{or_else}
 use Rattle.component_catalog.specs.Methods.{Row, method_of as catalog_method}
@@ -14,13 +19,18 @@ use Rattle.component_catalog.specs.declared.class.NativeClass.TheVariants as nat
 use Rattle.flex_base.specs.declared.outcome.MachineFault.TheVariants as fault
 use Rattle.flex_base.specs.declared.outcome.Stop.TheVariants as stop
 use Rattle.flex_base.specs.declared.value.Value.TheVariants as value
-use Rattle.flex_world.specs.Classes.{Class, StaticType, native_descends}
+use Rattle.flex_world.specs.Classes.{native_descends}
+use Rattle.flex_world.specs.declared.kind.Class.{Class}
+use Rattle.flex_world.specs.declared.kind.StaticType.{StaticType}
 use Rattle.flex_world.specs.Objects.{An_array, Instance_of, Kind, Object}
 use Rattle.ui_runtime.specs.Stage.{object_at}
 use Rattle.avm2_meaning.specs.Classes.{file_class_at, owner_of}
-use Rattle.avm2_meaning.specs.Frames.{Work}
-use Rattle.avm2_meaning.specs.Heap.{Heap, MadeClass, made_class}
-use Rattle.avm2_meaning.specs.Operands.{ClassValue, Natives, Operand, Plain, ScriptValue}
+use Rattle.avm2_meaning.specs.declared.work.Work.{Work}
+use Rattle.avm2_meaning.specs.Heap.{made_class}
+use Rattle.avm2_meaning.specs.declared.heap.Heap.{Heap}
+use Rattle.avm2_meaning.specs.declared.heap.MadeClass.{MadeClass}
+use Rattle.avm2_meaning.specs.declared.operand.Operand.{Operand}
+use Rattle.avm2_meaning.specs.declared.operand.Operand.TheVariants.{ClassValue, Natives, Plain, ScriptValue}
 use Rattle.avm2_meaning.specs.Results.{Goes, Result, faults, or_fault, stops}
 
 -- the first of the members that a name names

@@ -1,22 +1,36 @@
 -- The next move of a frame.
 use Rattle.std.specs.Prelude.{List, Option, [], option_and_then, slice_get, suc, ℕ, ◌∷◌}
-use Rattle.avm2_program.specs.Program.{Body, Operation, Program}
+use Rattle.avm2_program.specs.declared.method.Body.{Body}
+use Rattle.avm2_program.specs.declared.operation.Operation.{Operation}
+use Rattle.avm2_program.specs.declared.file.Program.{Program}
 use Rattle.component_catalog.specs.Events.{current_state_change}
 use Rattle.flex_base.specs.declared.value.ObjId.{ObjId}
 use Rattle.flex_base.specs.declared.value.Value.TheVariants as value
 use Rattle.flex_objects.specs.Entities.{RegisteredState}
 use Rattle.flex_world.specs.Objects.{Listener, Object, current_state, property, text_in}
-use Rattle.ui_runtime.specs.Documents.{state_named, states_at}
+use Rattle.stage_objects.specs.Documents.{state_named}
+use Rattle.ui_runtime.specs.Documents.{states_at}
 use Rattle.avm2_meaning.specs.Act.{act}
 use Rattle.avm2_meaning.specs.Bindings.{start_on}
 use Rattle.avm2_meaning.specs.Calls.{call_listener}
 use Rattle.avm2_meaning.specs.Classes.{body_of}
 use Rattle.avm2_meaning.specs.Dispatch.{announce, dispatch_on, send}
-use Rattle.avm2_meaning.specs.Effects.{Acted, Next, acted, closes, silent}
+use Rattle.avm2_meaning.specs.Effects.{Acted, acted, closes, silent}
+use Rattle.avm2_meaning.specs.declared.effect.Next.{Next}
+use Rattle.avm2_meaning.specs.declared.effect.Next.TheVariants as Next
 use Rattle.avm2_meaning.specs.Elements.{add_on, empty_on}
-use Rattle.avm2_meaning.specs.Frames.{Change, ChangeStep, CodeFrame, Frame, Native, Work}
-use Rattle.avm2_meaning.specs.Heap.{Heap}
-use Rattle.avm2_meaning.specs.Operands.{Operand, Plain}
+use Rattle.avm2_meaning.specs.declared.frame.Change.{Change}
+use Rattle.avm2_meaning.specs.declared.frame.ChangeStep.{ChangeStep}
+use Rattle.avm2_meaning.specs.declared.frame.ChangeStep.TheVariants as ChangeStep
+use Rattle.avm2_meaning.specs.declared.frame.CodeFrame.{CodeFrame}
+use Rattle.avm2_meaning.specs.declared.frame.Frame.{Frame}
+use Rattle.avm2_meaning.specs.declared.frame.Frame.TheVariants as Frame
+use Rattle.avm2_meaning.specs.declared.frame.Native.{Native}
+use Rattle.avm2_meaning.specs.declared.frame.Native.TheVariants as Native
+use Rattle.avm2_meaning.specs.declared.work.Work.{Work}
+use Rattle.avm2_meaning.specs.declared.heap.Heap.{Heap}
+use Rattle.avm2_meaning.specs.declared.operand.Operand.{Operand}
+use Rattle.avm2_meaning.specs.declared.operand.Operand.TheVariants.{Plain}
 use Rattle.avm2_meaning.specs.Results.{Goes, Result, bind, mapped, need, on}
 use Rattle.avm2_meaning.specs.Script.{act_event, begin_line, default_on, write_and}
 use Rattle.avm2_meaning.specs.States.{end_change}

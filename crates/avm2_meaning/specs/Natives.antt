@@ -1,6 +1,6 @@
 -- The methods of the catalog, and `trace`.
 use Rattle.std.specs.Prelude.{Bool, List, None, Option, Some, [], codes, false, ℕ, ℤ, ◌∷◌}
-use Rattle.avm2_program.specs.Program.{Program}
+use Rattle.avm2_program.specs.declared.file.Program.{Program}
 use Rattle.component_catalog.specs.Methods.{parameters_of}
 use Rattle.component_catalog.specs.declared.class.NativeClass.TheVariants as native
 use Rattle.component_catalog.specs.declared.method.NativeMethod.{NativeMethod}
@@ -21,11 +21,17 @@ use Rattle.ui_runtime.specs.Tree.{child}
 use Rattle.avm2_meaning.specs.Classes.{is_container_object, is_event_object, is_of}
 use Rattle.avm2_meaning.specs.Conversions.{native_arguments, object_number}
 use Rattle.avm2_meaning.specs.Dispatch.{begin_dispatch}
-use Rattle.avm2_meaning.specs.Effects.{Acted, Next, recorded, silent}
+use Rattle.avm2_meaning.specs.Effects.{Acted, recorded, silent}
+use Rattle.avm2_meaning.specs.declared.effect.Next.{Next}
+use Rattle.avm2_meaning.specs.declared.effect.Next.TheVariants as Next
 use Rattle.avm2_meaning.specs.Elements.{add, take_out}
-use Rattle.avm2_meaning.specs.Frames.{Dispatch, Native, keeps}
-use Rattle.avm2_meaning.specs.Heap.{Heap, on_stage}
-use Rattle.avm2_meaning.specs.Operands.{Operand}
+use Rattle.avm2_meaning.specs.Frames.{keeps}
+use Rattle.avm2_meaning.specs.declared.frame.Dispatch.{Dispatch}
+use Rattle.avm2_meaning.specs.declared.frame.Native.{Native}
+use Rattle.avm2_meaning.specs.declared.frame.Native.TheVariants as Native
+use Rattle.avm2_meaning.specs.Heap.{on_stage}
+use Rattle.avm2_meaning.specs.declared.heap.Heap.{Heap}
+use Rattle.avm2_meaning.specs.declared.operand.Operand.{Operand}
 use Rattle.avm2_meaning.specs.Replies.{Reply, gives, gives_nothing, reply}
 use Rattle.avm2_meaning.specs.Results.{Goes, Result, bind, choose, given, lacks, mapped, need, on, plain, stops, test}
 

@@ -1,18 +1,14 @@
--- What stacks, scopes and locals hold: values, and what stands for classes and scripts.
+-- What is asked of operands, and small ones.
 use Rattle.std.specs.Prelude.{Bool, false, true, ℕ}
 use Rattle.flex_base.specs.declared.value.ObjId.{ObjId}
 use Rattle.flex_base.specs.declared.value.Value.{Value}
 use Rattle.flex_base.specs.declared.value.Value.TheVariants as value
-use Rattle.flex_world.specs.Classes.{Class, StaticType, same_class}
-
-pub data Operand : Type 0 where
-  Plain : (value : Value) → Operand
-  -- a class value; there is none of the types Any and Unnamed
-  ClassValue : (type : StaticType) → Operand
-  -- a script value, by the script's number
-  ScriptValue : (script : ℕ) → Operand
-  -- the native script value
-  Natives : Operand
+use Rattle.flex_world.specs.Classes.{same_class}
+use Rattle.flex_world.specs.declared.kind.Class.TheVariants as Class
+use Rattle.flex_world.specs.declared.kind.StaticType.{StaticType}
+use Rattle.flex_world.specs.declared.kind.StaticType.TheVariants as StaticType
+use Rattle.avm2_meaning.specs.declared.operand.Operand.{Operand}
+use Rattle.avm2_meaning.specs.declared.operand.Operand.TheVariants.{ClassValue, Plain}
 
 -- whether both are one class
 abbrev pub same_type : StaticType → StaticType → Bool

@@ -1,7 +1,9 @@
 -- Reading and writing what a name is at a value.
 use Rattle.std.specs.Option.{option_map_or}
 use Rattle.std.specs.Prelude.{Bool, List, None, Option, Some, [], false, if◌then◌else◌, map, option_and_then, slice_get, true, ℕ, ◌||◌, ◌∷◌}
-use Rattle.avm2_program.specs.Program.{Member, Program, TraitPlace}
+use Rattle.avm2_program.specs.declared.member.Member.{Member}
+use Rattle.avm2_program.specs.declared.file.Program.{Program}
+use Rattle.avm2_program.specs.declared.member.TraitPlace.{TraitPlace}
 use Rattle.flex_base.specs.Lists.{changed_at}
 use Rattle.flex_base.specs.Value.{length_of}
 use Rattle.flex_base.specs.declared.outcome.MachineFault.TheVariants as fault
@@ -10,17 +12,25 @@ use Rattle.flex_base.specs.declared.record.TraceItem.TheVariants as trace
 use Rattle.flex_base.specs.declared.value.ObjId.{ObjId}
 use Rattle.flex_base.specs.declared.value.Value.{Value}
 use Rattle.flex_base.specs.declared.value.Value.TheVariants as value
-use Rattle.flex_world.specs.Classes.{StaticType}
+use Rattle.flex_world.specs.declared.kind.StaticType.{StaticType}
 use Rattle.flex_world.specs.Objects.{Field, Watcher, can_be_written, count, field_named, is_state_field, watcher}
 use Rattle.ui_runtime.specs.Arrays.{array_length}
 use Rattle.ui_runtime.specs.Properties.{reads, writes}
 use Rattle.ui_runtime.specs.declared.writing.Written.{Written}
 use Rattle.ui_runtime.specs.declared.writing.Written.TheVariants.{Changed, Equal, Silent}
 use Rattle.avm2_meaning.specs.Conversions.{convert}
-use Rattle.avm2_meaning.specs.Effects.{Effect, Next, effect, nothing, silent}
-use Rattle.avm2_meaning.specs.Frames.{Native}
-use Rattle.avm2_meaning.specs.Heap.{Heap, Statics, change_statics_of, has_place, is_written_in, statics_of}
-use Rattle.avm2_meaning.specs.Operands.{ClassValue, Operand, Plain, class_value, file_type, is_class}
+use Rattle.avm2_meaning.specs.Effects.{effect, nothing, silent}
+use Rattle.avm2_meaning.specs.declared.effect.Effect.{Effect}
+use Rattle.avm2_meaning.specs.declared.effect.Next.{Next}
+use Rattle.avm2_meaning.specs.declared.effect.Next.TheVariants as Next
+use Rattle.avm2_meaning.specs.declared.frame.Native.{Native}
+use Rattle.avm2_meaning.specs.declared.frame.Native.TheVariants as Native
+use Rattle.avm2_meaning.specs.Heap.{change_statics_of, has_place, is_written_in, statics_of}
+use Rattle.avm2_meaning.specs.declared.heap.Heap.{Heap}
+use Rattle.avm2_meaning.specs.declared.heap.Statics.{Statics}
+use Rattle.avm2_meaning.specs.Operands.{class_value, file_type, is_class}
+use Rattle.avm2_meaning.specs.declared.operand.Operand.{Operand}
+use Rattle.avm2_meaning.specs.declared.operand.Operand.TheVariants.{ClassValue, Plain}
 use Rattle.avm2_meaning.specs.Results.{Goes, Result, bind, choose, faults, inside, lacks, need, on, plain, test}
 use Rattle.avm2_meaning.specs.States.{request}
 

@@ -2,10 +2,14 @@
 use Rattle.std.specs.Prelude.{Bool, None, Option, Some}
 use Rattle.flex_base.specs.declared.value.Value.{Value}
 use Rattle.flex_base.specs.declared.value.Value.TheVariants as value
-use Rattle.avm2_meaning.specs.Effects.{Acted, Effect, Next, acted, answered, silent}
-use Rattle.avm2_meaning.specs.Frames.{Work, keeps}
-use Rattle.avm2_meaning.specs.Heap.{Heap}
-use Rattle.avm2_meaning.specs.Operands.{Plain}
+use Rattle.avm2_meaning.specs.Effects.{Acted, acted, answered, silent}
+use Rattle.avm2_meaning.specs.declared.effect.Effect.{Effect}
+use Rattle.avm2_meaning.specs.declared.effect.Next.{Next}
+use Rattle.avm2_meaning.specs.declared.effect.Next.TheVariants as Next
+use Rattle.avm2_meaning.specs.Frames.{keeps}
+use Rattle.avm2_meaning.specs.declared.work.Work.{Work}
+use Rattle.avm2_meaning.specs.declared.heap.Heap.{Heap}
+use Rattle.avm2_meaning.specs.declared.operand.Operand.TheVariants.{Plain}
 use Rattle.avm2_meaning.specs.Results.{Goes, Result}
 
 -- a value, if it is there at once

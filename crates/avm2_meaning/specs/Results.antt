@@ -10,8 +10,9 @@ use Rattle.flex_base.specs.declared.value.Value.{Value}
 use Rattle.flex_objects.specs.Entities.{Inside}
 use Rattle.flex_world.specs.Objects.{Object}
 use Rattle.ui_runtime.specs.Stage.{Stage, inside_at, object_at}
-use Rattle.avm2_meaning.specs.Heap.{Heap}
-use Rattle.avm2_meaning.specs.Operands.{Operand, Plain}
+use Rattle.avm2_meaning.specs.declared.heap.Heap.{Heap}
+use Rattle.avm2_meaning.specs.declared.operand.Operand.{Operand}
+use Rattle.avm2_meaning.specs.declared.operand.Operand.TheVariants.{Plain}
 
 -- goes on with a value, or the play is over
 pub data Result (A : Type 0) : Type 0 where

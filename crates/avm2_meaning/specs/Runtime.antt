@@ -1,21 +1,27 @@
 -- The calls of the runtime, on a document object.
 use Rattle.std.specs.Prelude.{Bool, List, None, Option, Some, [], if◌then◌else◌, is_some, length, nat_lt, negsuc, not, pos, ℕ, ℤ, ◌&&◌, ◌==◌, ◌∷◌}
-use Rattle.avm2_program.specs.Program.{Program, RuntimeCall}
+use Rattle.avm2_program.specs.declared.file.Program.{Program}
+use Rattle.avm2_program.specs.declared.member.RuntimeCall.{RuntimeCall}
 use Rattle.flex_base.specs.declared.outcome.MachineFault.TheVariants as fault
 use Rattle.flex_base.specs.declared.value.ObjId.{ObjId}
 use Rattle.flex_base.specs.declared.value.Value.TheVariants as value
 use Rattle.flex_objects.specs.Entities.{EnabledBinding, Inside, RegisteredState, listener}
 use Rattle.flex_world.specs.Objects.{Listener, Object, Spot, watcher}
-use Rattle.ui_runtime.specs.Documents.{begins_first, binding_numbered, binds, first_state, registers, state_named}
+use Rattle.stage_objects.specs.Documents.{binding_numbered, state_named}
+use Rattle.ui_runtime.specs.Documents.{begins_first, binds, first_state, registers}
 use Rattle.ui_runtime.specs.Tree.{child}
 use Rattle.avm2_meaning.specs.Bindings.{start_alone}
 use Rattle.avm2_meaning.specs.Classes.{is_component_object, is_container_object, is_document}
 use Rattle.avm2_meaning.specs.Conversions.{object_number}
-use Rattle.avm2_meaning.specs.Effects.{Effect, nothing, opens}
+use Rattle.avm2_meaning.specs.Effects.{nothing, opens}
+use Rattle.avm2_meaning.specs.declared.effect.Effect.{Effect}
 use Rattle.avm2_meaning.specs.Elements.{add, take_out}
-use Rattle.avm2_meaning.specs.Frames.{Native}
-use Rattle.avm2_meaning.specs.Heap.{Heap, on_stage}
-use Rattle.avm2_meaning.specs.Operands.{Operand, Plain}
+use Rattle.avm2_meaning.specs.declared.frame.Native.{Native}
+use Rattle.avm2_meaning.specs.declared.frame.Native.TheVariants as Native
+use Rattle.avm2_meaning.specs.Heap.{on_stage}
+use Rattle.avm2_meaning.specs.declared.heap.Heap.{Heap}
+use Rattle.avm2_meaning.specs.declared.operand.Operand.{Operand}
+use Rattle.avm2_meaning.specs.declared.operand.Operand.TheVariants.{Plain}
 use Rattle.avm2_meaning.specs.Replies.{Reply, reply}
 use Rattle.avm2_meaning.specs.Results.{Goes, Result, bind, faults, inside, on, test}
 use Rattle.avm2_meaning.specs.States.{change_to, first_steps}

@@ -1,7 +1,8 @@
 -- What each line of a script does.
 use Rattle.std.specs.Prelude.{Bool, List, None, Option, Some, [], codes, false, if◌then◌else◌, not, option_and_then, ℕ, ◌&&◌, ◌||◌, ◌∷◌}
 use Rattle.avm2_program.specs.Names.{public_name}
-use Rattle.avm2_program.specs.Program.{Member, Program}
+use Rattle.avm2_program.specs.declared.member.Member.{Member}
+use Rattle.avm2_program.specs.declared.file.Program.{Program}
 use Rattle.component_catalog.specs.Events.{change, click}
 use Rattle.component_catalog.specs.declared.class.NativeClass.TheVariants as native
 use Rattle.flex_base.specs.Events.{path_text}
@@ -19,9 +20,13 @@ use Rattle.ui_runtime.specs.Stage.{object_at}
 use Rattle.ui_runtime.specs.Tree.{path}
 use Rattle.avm2_meaning.specs.Classes.{is_component_object, is_of}
 use Rattle.avm2_meaning.specs.Dispatch.{begin_dispatch}
-use Rattle.avm2_meaning.specs.Effects.{Acted, Next, acted, closes, effect, in_place, recorded}
-use Rattle.avm2_meaning.specs.Frames.{Dispatch, Native}
-use Rattle.avm2_meaning.specs.Heap.{Heap}
+use Rattle.avm2_meaning.specs.Effects.{Acted, acted, closes, effect, in_place, recorded}
+use Rattle.avm2_meaning.specs.declared.effect.Next.{Next}
+use Rattle.avm2_meaning.specs.declared.effect.Next.TheVariants as Next
+use Rattle.avm2_meaning.specs.declared.frame.Dispatch.{Dispatch}
+use Rattle.avm2_meaning.specs.declared.frame.Native.{Native}
+use Rattle.avm2_meaning.specs.declared.frame.Native.TheVariants as Native
+use Rattle.avm2_meaning.specs.declared.heap.Heap.{Heap}
 use Rattle.avm2_meaning.specs.Making.{make_event}
 use Rattle.avm2_meaning.specs.Members.{kind_member}
 use Rattle.avm2_meaning.specs.Properties.{store_field}

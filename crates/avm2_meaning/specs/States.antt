@@ -7,9 +7,15 @@ use Rattle.flex_base.specs.declared.value.Value.TheVariants as value
 use Rattle.ui_runtime.specs.Documents.{kept_name, over, requests}
 use Rattle.ui_runtime.specs.declared.states.Change.{Change as Requested}
 use Rattle.ui_runtime.specs.declared.states.Change.TheVariants.{Begin}
-use Rattle.avm2_meaning.specs.Effects.{Acted, Effect, in_place, nothing, opens}
-use Rattle.avm2_meaning.specs.Frames.{Change, ChangeStep, Native}
-use Rattle.avm2_meaning.specs.Heap.{Heap, on_stage}
+use Rattle.avm2_meaning.specs.Effects.{Acted, in_place, nothing, opens}
+use Rattle.avm2_meaning.specs.declared.effect.Effect.{Effect}
+use Rattle.avm2_meaning.specs.declared.frame.Change.{Change}
+use Rattle.avm2_meaning.specs.declared.frame.ChangeStep.{ChangeStep}
+use Rattle.avm2_meaning.specs.declared.frame.ChangeStep.TheVariants as ChangeStep
+use Rattle.avm2_meaning.specs.declared.frame.Native.{Native}
+use Rattle.avm2_meaning.specs.declared.frame.Native.TheVariants as Native
+use Rattle.avm2_meaning.specs.Heap.{on_stage}
+use Rattle.avm2_meaning.specs.declared.heap.Heap.{Heap}
 use Rattle.avm2_meaning.specs.Results.{Result, bind, mapped, on, staged, stops}
 
 -- the state that a value names

@@ -1,8 +1,9 @@
 -- One step.
 use Rattle.std.specs.Prelude.{List, [], ℕ, ◌∷◌}
-use Rattle.avm2_program.specs.Program.{Program}
+use Rattle.avm2_program.specs.declared.file.Program.{Program}
 use Rattle.avm2_meaning.specs.Apply.{land}
-use Rattle.avm2_meaning.specs.Frames.{Frame}
+use Rattle.avm2_meaning.specs.declared.frame.Frame.{Frame}
+use Rattle.avm2_meaning.specs.declared.frame.Frame.TheVariants as Frame
 use Rattle.avm2_meaning.specs.Load.{load_on}
 use Rattle.avm2_meaning.specs.Machine.{Machine, Moved}
 use Rattle.avm2_meaning.specs.Moves.{moves}

@@ -1,7 +1,7 @@
 -- What is seen of a file that is played.
 use Rattle.std.specs.Prelude.{Bool, List, None, Option, Some, [], false, suc, true, zero, ℕ, ◌++◌, ◌∷◌, ◌≡◌}
 use Rattle.abc_format.specs.declared.records.Abc.{Abc}
-use Rattle.avm2_program.specs.Program.{Program}
+use Rattle.avm2_program.specs.declared.file.Program.{Program}
 use Rattle.avm2_program.specs.Resolving.{program}
 use Rattle.flex_base.specs.Story.{Story}
 use Rattle.flex_base.specs.declared.event.UserEvent.{UserEvent}

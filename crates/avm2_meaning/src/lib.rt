@@ -2,9 +2,27 @@
 //! here do nothing: each is a law that its contract states.
 #![tactic(auto)]
 
+mod effect;
+mod event;
+mod frame;
+mod heap;
+mod listener;
+mod operand;
+mod stack;
+mod work;
+
 ghost use Rattle.avm2_meaning.specs.Examples.{GreetingPlays, SpentPlays};
 ghost use Rattle.avm2_meaning.specs.GoingOn.{EveryPlayEnds, HasOneStory, MoreTurnsGoOn};
 ghost use Rattle.avm2_meaning.specs.StopExamples.{StopsByCause};
+
+pub use effect::{Call, Effect, Next};
+pub use event::Event;
+pub use frame::{Adding, Change, ChangeStep, CodeFrame, Dispatch, Frame, Native, Starting};
+pub use heap::{Heap, MadeClass, ObjectPlace, Statics};
+pub use listener::{Listener, Watcher};
+pub use operand::Operand;
+pub use stack::Stack;
+pub use work::Work;
 
 /// Every play of verified code ends. A file shows one story at most under a script, with so many
 /// turns; so verified code shows exactly one. More turns go on where fewer ended: what was seen is

@@ -40,7 +40,7 @@ at_once : (b : Bool) (n : ℕ) → b ≡ true → (if b then 0 else n) ≡ 0
 at_once true n e = refl
 at_once false n e = absurd cc
 
-not_at_once : (b : Bool) (n : ℕ) → b ≡ false → (if b then 0 else n) ≡ n
+pub not_at_once : (b : Bool) (n : ℕ) → b ≡ false → (if b then 0 else n) ≡ n
 not_at_once true n e = absurd cc
 not_at_once false n e = refl
 
@@ -50,7 +50,7 @@ same_int a b e = (Decides-int_eq (pos a) (pos b)).1 (ap pos e)
 other_int : (a b : ℕ) → a < b → int_eq (pos a) (pos b) ≡ false
 other_int a b lt = grind (arith, Decides-int_eq (pos a) (pos b), lt)
 
-numbered : (xs : List PlacedInstruction) (number : ℕ) (it : PlacedInstruction) → slice_get xs number ≡ Some it
+pub numbered : (xs : List PlacedInstruction) (number : ℕ) (it : PlacedInstruction) → slice_get xs number ≡ Some it
     → ((before : ℕ) (y : PlacedInstruction) → before < number → slice_get xs before ≡ Some y → y.place < it.place) → number_at (pos it.place) xs ≡ number
 numbered [] number it is earlier = absurd (none_stands number it is)
 numbered (x ∷ xs) zero it is earlier = at_once _ _ (same_int x.place it.place (ap (λ z. z.place) (some_same x it is)))

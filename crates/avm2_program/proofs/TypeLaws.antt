@@ -2,7 +2,8 @@
 use Rattle.std.proofs.Common.{◌≡◌, List, ℕ, zero, suc, refl, unwrap_or}
 use Rattle.std.specs.Prelude.{Option}
 use Rattle.abc_format.specs.declared.records.Abc.{Abc}
-use Rattle.flex_world.specs.Classes.{StaticType, Unnamed}
+use Rattle.flex_world.specs.declared.kind.StaticType.{StaticType}
+use Rattle.flex_world.specs.declared.kind.StaticType.TheVariants.{Unnamed}
 use Rattle.avm2_program.specs.declared.names.OwnName.{OwnName}
 use Rattle.avm2_program.specs.Naming.{name_at, type_at, type_named}
 

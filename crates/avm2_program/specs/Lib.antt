@@ -1,5 +1,4 @@
 pub mod Names
-pub mod Program
 pub mod Decoding
 pub mod Naming
 pub mod Traits

@@ -14,7 +14,8 @@ use Rattle.component_catalog.specs.Classes.{classes, name_of, or_else, package_o
 use Rattle.component_catalog.specs.declared.class.NativeClass.{NativeClass}
 use Rattle.component_catalog.specs.declared.class.NativeClass.TheVariants as native
 use Rattle.flex_base.specs.Lists.{entry}
-use Rattle.flex_world.specs.Classes.{Class, StaticType}
+use Rattle.flex_world.specs.declared.kind.Class.TheVariants as Class
+use Rattle.flex_world.specs.declared.kind.StaticType.{StaticType}
 use Rattle.avm2_program.specs.Names.{has_space, nameless, names_it, package_space, public_space}
 use Rattle.avm2_program.specs.declared.names.Name.{Name}
 use Rattle.avm2_program.specs.declared.names.OwnName.{OwnName}
@@ -52,6 +53,11 @@ primitive_named text =
 -- the class of the native script that a name names
 abbrev pub native_type : Name → Option StaticType
 native_type n = or_else (if has_space public_space n then primitive_named n.text else None) (native_named n)
+
+-- a name behind its package and a dot
+abbrev pub dotted : List ℕ → List ℕ → List ℕ
+dotted [] text = text
+dotted space text = space ++ 46 ∷ text
 
 module _ (abc : Abc) where
   -- the text of a number; 0 is the empty text
@@ -98,10 +104,6 @@ module _ (abc : Abc) where
   abbrev pub text_at : ℕ → List ℕ
   text_at n = unwrap_or (option_map text_of_multiname (multiname_at n)) []
 
-  abbrev pub dotted : List ℕ → List ℕ → List ℕ
-  dotted [] text = text
-  dotted space text = space ++ 46 ∷ text
-
   abbrev pub dotted_name_of : Multiname → List ℕ
   dotted_name_of (multiname.QName namespace name) = dotted (space_text namespace) (string_at name)
   dotted_name_of (multiname.QNameA namespace name) = dotted (space_text namespace) (string_at name)
@@ -116,8 +118,11 @@ pub record Naming : Type 0 where
   pub abc : Abc
   pub class_names : List (Option OwnName)
 
+abbrev pub naming_with : Abc → List (Option OwnName) → Naming
+naming_with abc class_names = record { abc = abc; class_names = class_names }
+
 abbrev pub naming : Abc → Naming
-naming abc = record { abc = abc; class_names = map (λ (instance : InstanceInfo). own_name_at abc instance.name) abc.instances }
+naming abc = naming_with abc (map (λ (instance : InstanceInfo). own_name_at abc instance.name) abc.instances)
 
 -- the class that a name names as a type, where the classes of the file have these names: the first of them, made or not, or else one of the native script
 abbrev pub type_named : List (Option OwnName) → Name → Option StaticType

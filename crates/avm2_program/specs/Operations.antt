@@ -5,13 +5,13 @@ use Rattle.avm2_code.specs.declared.instruction.Instruction.{Instruction}
 use Rattle.avm2_code.specs.declared.instruction.Instruction.TheVariants as instruction
 use Rattle.flex_base.specs.Lists.{entry}
 use Rattle.flex_base.specs.declared.value.Value.TheVariants as value
-use Rattle.flex_world.specs.Classes.{StaticType}
+use Rattle.flex_world.specs.declared.kind.StaticType.TheVariants as StaticType
 use Rattle.flex_world.specs.Objects.{count}
-use Rattle.flex_world.specs.Operators.{Operator}
+use Rattle.flex_world.specs.declared.operator.Operator.TheVariants as Operator
 use Rattle.verified_code.specs.Operands.{is_late}
 use Rattle.avm2_program.specs.Decoding.{instructions, target}
 use Rattle.avm2_program.specs.Naming.{Naming, name_at, string_at, type_at}
-use Rattle.avm2_program.specs.Program.{Operation}
+use Rattle.avm2_program.specs.declared.operation.Operation.{Operation}
 use Rattle.avm2_program.specs.declared.names.Name.{Name}
 
 module _ (g : Naming) where
@@ -27,6 +27,14 @@ module _ (g : Naming) where
 
   abbrev pub pushed_bool : Bool → Operation
   pushed_bool b = Operation.Push (value.Bool b)
+
+  -- the read of a property, or of an element where the text of the name comes from the stack
+  abbrev pub read_of : ℕ → Operation
+  read_of n = if is_late_name n then Operation.GetElement else Operation.GetProperty (name n)
+
+  -- the same for its write
+  abbrev pub write_of : ℕ → Operation
+  write_of n = if is_late_name n then Operation.SetElement else Operation.SetProperty (name n)
 
   -- an instruction made ready, where a branch with an offset leads to this instruction
   abbrev pub operation : (ℤ → ℕ) → Instruction → Operation
@@ -57,11 +65,11 @@ module _ (g : Naming) where
   operation to (instruction.NewClass class) = Operation.NewClass class
   operation to (instruction.FindPropStrict n) = Operation.FindProperty (name n)
   operation to (instruction.GetLex n) = Operation.GetLex (name n)
-  operation to (instruction.SetProperty n) = if is_late_name n then Operation.SetElement else Operation.SetProperty (name n)
+  operation to (instruction.SetProperty n) = write_of n
   operation to (instruction.GetLocal n) = Operation.GetLocal n
   operation to (instruction.SetLocal n) = Operation.SetLocal n
   operation to (instruction.GetScopeObject n) = Operation.GetScopeObject n
-  operation to (instruction.GetProperty n) = if is_late_name n then Operation.GetElement else Operation.GetProperty (name n)
+  operation to (instruction.GetProperty n) = read_of n
   operation to (instruction.InitProperty n) = Operation.SetProperty (name n)
   operation to instruction.ConvertString = Operation.ToText
   operation to instruction.ConvertInt = Operation.Convert StaticType.Int

@@ -11,12 +11,18 @@ use Rattle.abc_format.specs.declared.records.Trait.{Trait}
 use Rattle.component_catalog.specs.Classes.{classes, lineage}
 use Rattle.component_catalog.specs.Properties.{Property, properties}
 use Rattle.component_catalog.specs.declared.class.NativeClass.{NativeClass}
-use Rattle.flex_world.specs.Classes.{Class, StaticType, lineage_in}
+use Rattle.flex_world.specs.Classes.{lineage_in}
+use Rattle.flex_world.specs.declared.kind.Class.{Class}
+use Rattle.flex_world.specs.declared.kind.StaticType.{StaticType}
 use Rattle.flex_world.specs.Making.{native_fields}
 use Rattle.flex_world.specs.Objects.{Field}
 use Rattle.avm2_program.specs.Naming.{Naming, dotted_name_at, naming, type_at}
 use Rattle.avm2_program.specs.Operations.{operations}
-use Rattle.avm2_program.specs.Program.{Body, FileClass, Method, Program, Script}
+use Rattle.avm2_program.specs.declared.method.Body.{Body}
+use Rattle.avm2_program.specs.declared.class.FileClass.{FileClass}
+use Rattle.avm2_program.specs.declared.method.Method.{Method}
+use Rattle.avm2_program.specs.declared.file.Program.{Program}
+use Rattle.avm2_program.specs.declared.file.Script.{Script}
 use Rattle.avm2_program.specs.Traits.{KeyedTrait, PlacedTrait, fields_of, hidden_of, is_unplayed, member_of, method_in, own_member_of, own_slot, placed, with_keys}
 
 -- the class that a type is, if it is one
@@ -58,6 +64,28 @@ abbrev pub names_behind : Option NativeClass → List (List ℕ)
 names_behind None = []
 names_behind (Some class) = property_names class
 
+abbrev pub names_method : ℕ → Option ℕ → Bool
+names_method m None = false
+names_method m (Some other) = other == m
+
+abbrev pub have_method : ℕ → List Trait → Bool
+have_method m traits = list_any (λ (t : Trait). names_method m (method_in t.kind)) traits
+
+-- whether the constructor or a trait of a class names a method
+abbrev pub owns : ℕ → InstanceInfo → ClassInfo → Bool
+owns m instance class = (instance.iinit == m) || have_method m instance.traits || have_method m class.traits
+
+-- the number of the first class that owns a method, from a number on
+abbrev pub owner_from : ℕ → ℕ → List InstanceInfo → List ClassInfo → Option ℕ
+owner_from m k [] _ = None
+owner_from m k (instance ∷ instances) [] = None
+owner_from m k (instance ∷ instances) (class ∷ others) =
+    if owns m instance class then Some k else owner_from m (suc k) instances others
+
+abbrev pub is_unplayed_class : InstanceInfo → ClassInfo → Bool
+is_unplayed_class instance class =
+    nat_lt 0 (length instance.interfaces) || list_any (λ (t : Trait). is_unplayed t.kind) instance.traits || list_any (λ (t : Trait). is_unplayed t.kind) class.traits
+
 module _ (g : Naming) where
   abbrev pub body_of : MethodBody → Body
   body_of b = record { locals = b.local_count; code = operations g b.code }
@@ -65,20 +93,6 @@ module _ (g : Naming) where
   -- of several bodies of a method the first counts
   abbrev pub body_at : ℕ → Option Body
   body_at m = option_map body_of (find (λ (b : MethodBody). b.method == m) g.abc.method_bodies)
-
-  abbrev pub names_method : ℕ → Option ℕ → Bool
-  names_method m None = false
-  names_method m (Some other) = other == m
-
-  abbrev pub have_method : ℕ → List Trait → Bool
-  have_method m traits = list_any (λ (t : Trait). names_method m (method_in t.kind)) traits
-
-  -- the number of the first class whose constructor or trait names a method, from a number on
-  abbrev pub owner_from : ℕ → ℕ → List InstanceInfo → List ClassInfo → Option ℕ
-  owner_from m k [] classes = None
-  owner_from m k (instance ∷ instances) [] = None
-  owner_from m k (instance ∷ instances) (class ∷ classes) =
-      if (instance.iinit == m) || have_method m instance.traits || have_method m class.traits then Some k else owner_from m (suc k) instances classes
 
   abbrev pub method_of : ℕ → MethodInfo → Method
   method_of m info = record {
@@ -113,10 +127,6 @@ module _ (g : Naming) where
   traits_of k =
       with_keys g (names_behind (native_behind (behind_class type_bases k))) 0 (flat_map own_traits (lineage_in (class_bases type_bases) (Class.File k)))
 
-  abbrev pub is_unplayed_class : InstanceInfo → ClassInfo → Bool
-  is_unplayed_class instance class =
-      nat_lt 0 (length instance.interfaces) || list_any (λ (t : Trait). is_unplayed t.kind) instance.traits || list_any (λ (t : Trait). is_unplayed t.kind) class.traits
-
   abbrev pub file_class : ℕ → InstanceInfo → ClassInfo → FileClass
   file_class k instance class = record {
     name = dotted_name_at g.abc instance.name;
@@ -133,14 +143,16 @@ module _ (g : Naming) where
   }
 
   abbrev pub classes_from : ℕ → List InstanceInfo → List ClassInfo → List FileClass
-  classes_from k [] classes = []
+  classes_from k [] _ = []
   classes_from k (instance ∷ instances) [] = []
-  classes_from k (instance ∷ instances) (class ∷ classes) = file_class k instance class ∷ classes_from (suc k) instances classes
+  classes_from k (instance ∷ instances) (class ∷ others) = file_class k instance class ∷ classes_from (suc k) instances others
+
+  abbrev pub script_of : ℕ → ScriptInfo → Script
+  script_of s info = record { initialiser = info.init; members = map (own_member_of g) (placed s info.traits); slots = map (own_slot g) info.traits }
 
   abbrev pub scripts_from : ℕ → List ScriptInfo → List Script
   scripts_from s [] = []
-  scripts_from s (info ∷ infos) =
-      record { initialiser = info.init; members = map (own_member_of g) (placed s info.traits); slots = map (own_slot g) info.traits } ∷ scripts_from (suc s) infos
+  scripts_from s (info ∷ infos) = script_of s info ∷ scripts_from (suc s) infos
 
   abbrev pub program_of : Program
   program_of = record {

@@ -1,6 +1,6 @@
 -- The traits of the classes and scripts of a file: what they are as members, and the keys of slots.
 use Rattle.std.specs.List.{filter, list_any}
-use Rattle.std.specs.Prelude.{Bool, List, None, Option, Some, [], codes, decimal, false, if◌then◌else◌, map, not, option_map, slice_get, suc, true, unwrap_or, ℕ, ◌&&◌, ◌==◌, ◌||◌, ◌∷◌}
+use Rattle.std.specs.Prelude.{Bool, List, None, Option, Some, [], codes, decimal, false, if◌then◌else◌, map, not, option_map, slice_get, suc, true, unwrap_or, ℕ, ◌&&◌, ◌++◌, ◌==◌, ◌||◌, ◌∷◌}
 use Rattle.std.specs.Str.{bytes_eq}
 use Rattle.abc_format.specs.declared.records.ItemInfo.{ItemInfo}
 use Rattle.abc_format.specs.declared.records.MetadataInfo.{MetadataInfo}
@@ -9,12 +9,14 @@ use Rattle.abc_format.specs.declared.records.TraitKind.{TraitKind}
 use Rattle.abc_format.specs.declared.records.TraitKind.TheVariants as trait_kind
 use Rattle.flex_base.specs.declared.value.Value.{Value}
 use Rattle.flex_base.specs.declared.value.Value.TheVariants as value
-use Rattle.flex_world.specs.Classes.{StaticType}
+use Rattle.flex_world.specs.declared.kind.StaticType.{StaticType}
 use Rattle.flex_world.specs.Making.{start_of_type}
 use Rattle.flex_world.specs.Objects.{Field}
 use Rattle.avm2_program.specs.Names.{lies_in_space, public_space, runtime_space}
 use Rattle.avm2_program.specs.Naming.{Naming, own_name_at, string_at, text_at, type_at}
-use Rattle.avm2_program.specs.Program.{Member, NamedMember, TraitPlace}
+use Rattle.avm2_program.specs.declared.member.Member.{Member}
+use Rattle.avm2_program.specs.declared.member.NamedMember.{NamedMember}
+use Rattle.avm2_program.specs.declared.member.TraitPlace.{TraitPlace}
 use Rattle.avm2_program.specs.declared.names.Space.{Space}
 
 abbrev pub is_slot : TraitKind → Bool
@@ -72,6 +74,12 @@ has_dot text = list_any (λ b. b == 46) text
 abbrev pub key_of : List (List ℕ) → ℕ → List ℕ → List ℕ
 key_of taken n text = if has_dot text || has_text text taken then 46 ∷ decimal n else text
 
+-- what a trait is that is played, where a slot is this
+abbrev pub played : Member → TraitPlace → TraitKind → Member
+played slot place (trait_kind.Method dispatch m) = Member.Written m
+played slot place (trait_kind.Class number c) = Member.ClassTrait place c
+played slot place _ = slot
+
 module _ (g : Naming) where
   abbrev pub slot_text : PlacedTrait → List ℕ
   slot_text t = text_at g.abc t.trait.name
@@ -84,7 +92,7 @@ module _ (g : Naming) where
   with_keys taken n [] = []
   with_keys taken n (t ∷ traits) =
       keyed t (if is_slot t.trait.kind then key_of taken n (slot_text t) else [])
-      ∷ with_keys (if is_slot t.trait.kind then slot_text t ∷ taken else taken) (if is_slot t.trait.kind then suc n else n) traits
+      ∷ with_keys (if is_slot t.trait.kind then taken ++ slot_text t ∷ [] else taken) (if is_slot t.trait.kind then suc n else n) traits
 
   abbrev pub has_no_items : List ItemInfo → Bool
   has_no_items [] = true
@@ -129,12 +137,6 @@ module _ (g : Naming) where
   -- the hidden ones, which cost no cells and make no records
   abbrev pub hidden_of : List KeyedTrait → List Field
   hidden_of = slot_fields is_hidden
-
-  -- what a trait is that is played, where a slot is this
-  abbrev pub played : Member → TraitPlace → TraitKind → Member
-  played slot place (trait_kind.Method dispatch m) = Member.Written m
-  played slot place (trait_kind.Class number c) = Member.ClassTrait place c
-  played slot place _ = slot
 
   abbrev pub named_member : Member → PlacedTrait → NamedMember
   named_member slot t = record {

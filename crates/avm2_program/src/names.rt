@@ -32,8 +32,8 @@ impl Space {
         }
     }
 
-    // Whether it is the namespace of a package.
-    fn is_package(&self, text: &str) -> bool
+    /// Whether it is the namespace of a package.
+    pub fn is_package(&self, text: &str) -> bool
         ensures { result ≡ same_space (package_space text.now) self.now }
     {
         match self {

@@ -3,8 +3,9 @@
 
 ghost use Rattle.std.specs.Option.{option_copied};
 ghost use Rattle.std.specs.Prelude.{◌≡◌, [], ◌∷◌, IfOk, map};
+ghost use Rattle.std.specs.Str.{bytes_eq};
 ghost use Rattle.flex_base.specs.Lists.{entry};
-ghost use Rattle.avm2_program.specs.Naming.{name_at, name_of_multiname, own_name_at, space_at, spaces_at, string_at};
+ghost use Rattle.avm2_program.specs.Naming.{dotted, dotted_name_at, name_at, name_of_multiname, own_name_at, space_at, space_text, spaces_at, string_at, text_at};
 ghost use Rattle.avm2_program.specs.Names.{nameless};
 
 use crate::names::{Name, OwnName, Space};
@@ -15,7 +16,7 @@ use flex_base::{NoMemory, Sequence, Text};
 use std::alloc::Global;
 
 // The entry of a number, which counts from 1.
-fn entry_of<T>(entries: &[T], number: u32) -> Option<&T>
+pub fn entry_of<T>(entries: &[T], number: u32) -> Option<&T>
     ensures { option_copied result ≡ entry entries.now number }
 {
     match number {
@@ -31,6 +32,16 @@ pub fn string_at(alloc: Global, abc: &Abc, string: StringIndex) -> Result<Text, 
     match entry_of(abc.constant_pool.strings.as_slice(), string.number()) {
         Some(text) => Ok(text.clone()?),
         None => Text::make(alloc, ""),
+    }
+}
+
+/// Whether a string of the pool is this text.
+pub fn is_string(abc: &Abc, string: StringIndex, text: &str) -> bool
+    ensures { result ≡ bytes_eq (string_at abc.now string) text.now }
+{
+    match entry_of(abc.constant_pool.strings.as_slice(), string.number()) {
+        Some(own) => own.as_str() == text,
+        None => text.is_empty(),
     }
 }
 
@@ -181,4 +192,71 @@ pub fn own_name_at(
         }
         _ => Ok(None),
     }
+}
+
+/// The text of a name of the pool, of any kind; it is empty where the name has none.
+pub fn text_at(alloc: Global, abc: &Abc, name: MultinameIndex) -> Result<Text, NoMemory>
+    ensures { IfOk result (λ text. text ≡ text_at abc.now name) }
+{
+    let multiname = entry_of(abc.constant_pool.multinames.as_slice(), name.number());
+    match multiname {
+        Some(Multiname::QName { name, .. }) => string_at(alloc, abc, *name),
+        Some(Multiname::QNameA { name, .. }) => string_at(alloc, abc, *name),
+        Some(Multiname::RtqName { name }) => string_at(alloc, abc, *name),
+        Some(Multiname::RtqNameA { name }) => string_at(alloc, abc, *name),
+        Some(Multiname::Multiname { name, .. }) => string_at(alloc, abc, *name),
+        Some(Multiname::MultinameA { name, .. }) => string_at(alloc, abc, *name),
+        _ => Text::make(alloc, ""),
+    }
+}
+
+/// The full dotted name of a class with this name; it is empty where the name isn't one of a
+/// single namespace.
+pub fn dotted_name_at(alloc: Global, abc: &Abc, name: MultinameIndex) -> Result<Text, NoMemory>
+    ensures { IfOk result (λ text. text ≡ dotted_name_at abc.now name) }
+{
+    let multiname = entry_of(abc.constant_pool.multinames.as_slice(), name.number());
+    match multiname {
+        Some(Multiname::QName { namespace, name }) => dotted_name(alloc, abc, *namespace, *name),
+        Some(Multiname::QNameA { namespace, name }) => dotted_name(alloc, abc, *namespace, *name),
+        _ => Text::make(alloc, ""),
+    }
+}
+
+// The name of a class of a package.
+fn dotted_name(
+    alloc: Global,
+    abc: &Abc,
+    namespace: NamespaceIndex,
+    name: StringIndex,
+) -> Result<Text, NoMemory>
+    ensures { IfOk result (λ text. text ≡ dotted (space_text abc.now namespace) (string_at abc.now name)) }
+{
+    let space = space_text(alloc, abc, namespace)?;
+    let text = string_at(alloc, abc, name)?;
+    dotted(alloc, &space, text)
+}
+
+// The text of a namespace.
+fn space_text(alloc: Global, abc: &Abc, namespace: NamespaceIndex) -> Result<Text, NoMemory>
+    ensures { IfOk result (λ text. text ≡ space_text abc.now namespace) }
+{
+    match entry_of(abc.constant_pool.namespaces.as_slice(), namespace.number()) {
+        Some(info) => string_at(alloc, abc, info.name),
+        None => Text::make(alloc, ""),
+    }
+}
+
+// A name behind its package and a dot.
+fn dotted(alloc: Global, space: &Text, text: Text) -> Result<Text, NoMemory>
+    ensures { IfOk result (λ joined. joined ≡ dotted space.now text) }
+{
+    if space.as_str().is_empty() {
+        return Ok(text);
+    }
+    let mut joined = String::new(alloc);
+    joined.push_str(space.as_str())?;
+    joined.push('.')?;
+    joined.push_str(text.as_str())?;
+    Text::make(alloc, &joined)
 }

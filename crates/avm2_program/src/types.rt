@@ -3,8 +3,7 @@
 ghost use Rattle.std.specs.List.{find};
 ghost use Rattle.std.specs.Prelude.{◌≡◌, IfOk, option_map, unwrap_or};
 ghost use Rattle.component_catalog.specs.Classes.{classes};
-ghost use Rattle.flex_world.specs.Classes.{Unnamed};
-ghost use Rattle.flex_world.specs.Kinds.{type_of};
+ghost use Rattle.flex_world.specs.declared.kind.StaticType.TheVariants.{Unnamed};
 ghost use Rattle.avm2_program.specs.Naming.{class_numbered, is_class_of_code, is_native_name, name_at, native_type, primitive_named, type_at, type_named};
 
 use crate::names::{Name, OwnName};
@@ -64,7 +63,7 @@ fn native_class(name: &Name) -> Option<NativeClass>
 
 // The type of the native script that has this name and is no class of the catalog.
 fn primitive(text: &str) -> Option<StaticType>
-    ensures { option_map type_of result ≡ primitive_named text.now }
+    ensures { result ≡ primitive_named text.now }
 {
     match text {
         "int" => Some(StaticType::Int),
@@ -75,9 +74,9 @@ fn primitive(text: &str) -> Option<StaticType>
     }
 }
 
-// The class of the native script that a name names.
-fn native_type(name: &Name) -> Option<StaticType>
-    ensures { option_map type_of result ≡ native_type name.now }
+/// The class of the native script that a name names.
+pub fn native_type(name: &Name) -> Option<StaticType>
+    ensures { result ≡ native_type name.now }
 {
     if name.has_package("")
         && let Some(found) = primitive(name.text.as_str())
@@ -91,7 +90,7 @@ fn native_type(name: &Name) -> Option<StaticType>
 /// The type that a name names, where the classes of the file have these names: the first of them,
 /// made or not, or else a class of the native script.
 pub fn type_named(classes: &[Option<OwnName>], name: &Name) -> Result<Option<StaticType>, NoMemory>
-    ensures { IfOk result (λ found. option_map type_of found ≡ type_named classes.now name.now) }
+    ensures { IfOk result (λ found. found ≡ type_named classes.now name.now) }
 {
     match class_numbered(classes, name) {
         Some(number) => {
@@ -116,7 +115,7 @@ pub fn type_at(
     classes: &[Option<OwnName>],
     index: MultinameIndex,
 ) -> Result<StaticType, NoMemory>
-    ensures { IfOk result (λ found. type_of found ≡
+    ensures { IfOk result (λ found. found ≡
         type_at (record { abc = abc.now; class_names = classes.now }) index) }
 {
     if index.number() == 0 {
@@ -133,7 +132,7 @@ fn named_type(
     classes: &[Option<OwnName>],
     index: MultinameIndex,
 ) -> Result<StaticType, NoMemory>
-    ensures { IfOk result (λ found. type_of found ≡
+    ensures { IfOk result (λ found. found ≡
         unwrap_or (type_named classes.now (name_at abc.now index)) Unnamed) }
 {
     let name = name_at(alloc, abc, index)?;

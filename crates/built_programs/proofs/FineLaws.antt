@@ -16,7 +16,10 @@ use Rattle.flex_program.specs.Classes.{bases, fields_of, variable_field}
 use Rattle.flex_program.specs.Fine.{are_numbered, can_write, computed_type, has_fine_names, holds, instance_class, is_fine_class, is_fine_contents, is_fine_document, is_fine_handler, is_fine_instance, is_fine_made, is_fine_method, is_fine_part, is_fine_variable}
 use Rattle.flex_program.specs.Instances.{instances_in, part_of, parts_of}
 use Rattle.flex_program.specs.Program.{Part, Program}
-use Rattle.flex_world.specs.Classes.{Class, StaticType, is_component, is_container, same_class}
+use Rattle.flex_world.specs.Classes.{is_component, is_container, same_class}
+use Rattle.flex_world.specs.declared.kind.Class.{Class}
+use Rattle.flex_world.specs.declared.kind.Class.TheVariants as Class
+use Rattle.flex_world.specs.declared.kind.StaticType.{StaticType}
 use Rattle.flex_world.specs.Making.{native_fields}
 use Rattle.flex_world.specs.Objects.{Field, can_be_written}
 use Rattle.built_programs.specs.Fine.{HaveIds, ProgramsAreFine, SourceProgramsAreFine}

@@ -7,7 +7,8 @@ use Rattle.flex_front.specs.Source.{id_of}
 use Rattle.flex_front.specs.declared.document.Document as Source
 use Rattle.flex_front.specs.declared.document.Element.{Element}
 use Rattle.flex_front.specs.declared.document.Element.TheVariants as element
-use Rattle.flex_world.specs.Classes.{Class, StaticType}
+use Rattle.flex_world.specs.declared.kind.Class.TheVariants as Class
+use Rattle.flex_world.specs.declared.kind.StaticType.TheVariants as StaticType
 use Rattle.flex_program.specs.Program.{Attribute, Contents, Document, Expr, Instance, Literal, Method, MoreExpr, MoreStmt, NoExpr, NoStmt, Part, Program, SourceClass, Stmt, Variable}
 
 -- the class of an element

@@ -2,7 +2,9 @@
 use Rattle.std.specs.Prelude.{ℕ, List, [], ◌∷◌, take, length, Bool, true, false, not, ◌&&◌, ◌||◌, ◌==◌, Option, Some, None, slice_get, option_map, unwrap_or, bytes_eq}
 use Rattle.as3_parser.specs.declared.tree.Lexeme.{Lexeme}
 use Rattle.component_catalog.specs.declared.class.NativeClass.TheVariants as native
-use Rattle.flex_world.specs.Classes.{Class, is_component, descends_from}
+use Rattle.flex_world.specs.Classes.{is_component, descends_from}
+use Rattle.flex_world.specs.declared.kind.Class.{Class}
+use Rattle.flex_world.specs.declared.kind.Class.TheVariants as Class
 use Rattle.source_sites.specs.declared.code.Code.TheVariants as code
 use Rattle.flex_base.specs.Events.{path_text}
 use Rattle.source_sites.specs.Texts.{Text}

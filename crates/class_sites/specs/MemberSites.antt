@@ -6,7 +6,8 @@ use Rattle.mxml_tree.specs.declared.tree.Attribute.{Attribute}
 use Rattle.as3_parser.specs.declared.tree.Lexeme.{Lexeme}
 use Rattle.as3_parser.specs.declared.tree.Modifier.{Modifier}
 use Rattle.as3_parser.specs.declared.tree.Modifier.TheVariants as modifier
-use Rattle.flex_world.specs.Classes.{Class, same_class, base_in}
+use Rattle.flex_world.specs.Classes.{same_class, base_in}
+use Rattle.flex_world.specs.declared.kind.Class.TheVariants as Class
 use Rattle.source_sites.specs.declared.code.Code.TheVariants as code
 use Rattle.source_sites.specs.Texts.{Text, among, is_there, without_last}
 use Rattle.source_sites.specs.declared.names.Import.{Import}

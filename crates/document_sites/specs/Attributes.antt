@@ -1,6 +1,6 @@
 -- What each attribute of a document is.
 use Rattle.std.specs.Prelude.{ℕ, List, [], ◌∷◌, length, Bool, true, false, not, ◌&&◌, ◌||◌, if◌then◌else◌, ◌==◌, Option, Some, None, bytes_eq, codes}
-use Rattle.flex_world.specs.Classes.{Class}
+use Rattle.flex_world.specs.declared.kind.Class.{Class}
 use Rattle.mxml_tree.specs.declared.tree.Attribute.{Attribute}
 use Rattle.source_sites.specs.Texts.{Text, among, is_there}
 use Rattle.source_sites.specs.Names.{Meaning}

@@ -3,7 +3,8 @@ use Rattle.std.specs.Prelude.{ℕ, ◌+◌, List, [], ◌∷◌, ◌++◌, lengt
 use Rattle.std.specs.List.{list_any, filter, flat_map}
 use Rattle.component_catalog.specs.declared.class.TagPlace.{TagPlace}
 use Rattle.component_catalog.specs.declared.class.TagPlace.TheVariants.{Anywhere, Root}
-use Rattle.flex_world.specs.Classes.{Class}
+use Rattle.flex_world.specs.declared.kind.Class.{Class}
+use Rattle.flex_world.specs.declared.kind.Class.TheVariants as Class
 use Rattle.mxml_tree.specs.Tree.{Nodes, NoNode}
 use Rattle.mxml_tree.specs.declared.tree.Attribute.{Attribute}
 use Rattle.mxml_tree.specs.declared.tree.Element.{Element}

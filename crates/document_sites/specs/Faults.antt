@@ -1,6 +1,6 @@
 -- The sites of a source set by reading, classes and members, in order, and the first broken one.
 use Rattle.std.specs.Prelude.{ℕ, List, ◌++◌, Option}
-use Rattle.flex_world.specs.Classes.{Class}
+use Rattle.flex_world.specs.declared.kind.Class.TheVariants as Class
 use Rattle.source_sites.specs.declared.site.Site.{Site}
 use Rattle.source_sites.specs.Sites.{Rule, FileRule, first_broken}
 use Rattle.source_sites.specs.Sources.{Content, SourceFiles}

@@ -1,7 +1,7 @@
 -- A document as it is read: its elements and texts, each with what it is.
 use Rattle.std.specs.Prelude.{ℕ, List, [], ◌∷◌, ◌++◌, Bool, true, false}
 use Rattle.std.specs.List.{flat_map}
-use Rattle.flex_world.specs.Classes.{Class}
+use Rattle.flex_world.specs.declared.kind.Class.{Class}
 use Rattle.mxml_tree.specs.Tree.{Node, Elem, Chars, Nodes, NoNode, MoreNode}
 use Rattle.mxml_tree.specs.declared.tree.Attribute.{Attribute}
 use Rattle.mxml_tree.specs.declared.tree.Characters.{Characters}

@@ -5,7 +5,8 @@ use Rattle.component_catalog.specs.declared.class.TagPlace.{TagPlace}
 use Rattle.component_catalog.specs.declared.class.TagPlace.TheVariants.{Nowhere, States}
 use Rattle.component_catalog.specs.Properties.{properties}
 use Rattle.component_catalog.specs.Classes.{spark}
-use Rattle.flex_world.specs.Classes.{Class, is_component, is_container}
+use Rattle.flex_world.specs.Classes.{is_component, is_container}
+use Rattle.flex_world.specs.declared.kind.Class.{Class}
 use Rattle.mxml_tree.specs.Tree.{Node, Elem, Chars, Nodes, NoNode, MoreNode}
 use Rattle.mxml_tree.specs.declared.tree.Element.{Element}
 use Rattle.source_sites.specs.Texts.{Text, among, is_there}

@@ -1,4 +1,7 @@
-pub mod Hearers
-pub mod Insertions
+pub mod Heard
+pub mod Numbered
+pub mod Numbers
+pub mod Pairs
+pub mod Ranks
 pub mod Walks
 pub mod WholeDispatch

@@ -4,10 +4,12 @@
 
 mod calls;
 mod flow;
+mod hearers;
+mod kinds;
 mod laws;
 mod listeners;
 mod nodes;
-mod registration;
+mod registrations;
 #[cfg(test)]
 mod tests;
 

@@ -1,10 +1,12 @@
 // The listeners of a node.
 
-ghost use Rattle.std.specs.Prelude.{◌≡◌, [], IfOk, OnOk, OnErr};
+ghost use Rattle.std.specs.Prelude.{◌≡◌, [], IfOk, OnOk, OnErr, true};
 ghost use Rattle.flex_world.specs.Events.{is_heard};
-ghost use Rattle.event_flow.specs.Hearing.{addition, has_listener, heard_at, removal, with_listener, without_listener};
+ghost use Rattle.event_flow.specs.Hearing.{addition, heard_at, removal, with_listener, without_listener};
+ghost use Rattle.event_flow.specs.Registered.{are_numbered};
 
-use crate::registration::{Registration, insert_by_priority};
+use crate::kinds::Kinds;
+use crate::registrations::{Key, Registrations};
 use flex_base::{ListenerList, NoMemory, ObjId, Text};
 use std::alloc::Global;
 use std::marker::Model;
@@ -28,18 +30,25 @@ pub enum Removal {
 }
 
 /// The listeners of a node, in order of registration. ActionScript 3, event flow.
+///
+/// A listener is registered, found and removed without a look at the others; those that hear an
+/// event are put in order by their priority. A type of events for which there was a listener is
+/// remembered, also once that is removed.
 #[derive(Drop)]
 pub struct Listeners {
-    registrations: Vec<Registration>,
+    kinds: Kinds,
+    registrations: Registrations,
+    ghost numbered: { are_numbered kinds registrations ≡ true },
 }
 
 impl Model for Listeners {
     ghost use Rattle.std.specs.Prelude.{List};
     ghost use Rattle.flex_world.specs.Objects.{Registration as Registered};
+    ghost use Rattle.event_flow.specs.Registered.{all_registered};
 
     ghost Value = { List Registered };
 
-    ghost view = { λ l. l.registrations.items };
+    ghost view = { λ l. all_registered l.kinds l.registrations };
 }
 
 impl Listeners {
@@ -48,7 +57,8 @@ impl Listeners {
         ensures { result ≡ [] }
     {
         Listeners {
-            registrations: Vec::new(alloc),
+            kinds: Kinds::new(alloc),
+            registrations: Registrations::new(alloc),
         }
     }
 
@@ -68,17 +78,12 @@ impl Listeners {
         ensures answer { IfOk result (λ a. a ≡ addition kind.now listener capture self.old) }
         ensures err { OnErr result (self.new ≡ self.old) }
     {
-        if self.is_registered(kind, listener, capture) {
+        let number = self.kinds.number(kind)?;
+        let key = Key::of(number, listener, capture);
+        if self.registrations.contains(key) {
             return Ok(Addition::Kept);
         }
-        let (object, method) = listener;
-        self.registrations.push(Registration {
-            kind: kind.clone()?,
-            object,
-            method,
-            capture,
-            priority,
-        })?;
+        self.registrations.push(key, priority)?;
         Ok(Addition::New)
     }
 
@@ -88,10 +93,13 @@ impl Listeners {
         ensures after { self.new ≡ without_listener kind.now listener capture self.old }
         ensures answer { result ≡ removal kind.now listener capture self.old }
     {
-        let was_registered = self.is_registered(kind, listener, capture);
-        self.registrations
-            .retain(|r| !r.is_of(kind, listener, capture));
-        if was_registered {
+        let Some(number) = self.kinds.number_of(kind) else {
+            return Removal::Absent;
+        };
+        if self
+            .registrations
+            .remove(Key::of(number, listener, capture))
+        {
             Removal::Gone
         } else {
             Removal::Absent
@@ -104,17 +112,13 @@ impl Listeners {
     pub fn at_node(&self, alloc: Global, kind: &Text, phase: u8) -> Result<ListenerList, NoMemory>
         ensures { IfOk result (λ list. list ≡ heard_at kind.now phase self.now) }
     {
-        let mut hearers: Vec<&Registration> = Vec::new(alloc);
-        for registration in &self.registrations {
-            if registration.hears(kind, phase) {
-                insert_by_priority(&mut hearers, registration)?;
-            }
+        match self.kinds.number_of(kind) {
+            Some(number) => self
+                .registrations
+                .hearers(alloc, number, phase)?
+                .list(alloc),
+            None => Ok(ListenerList::new(alloc)),
         }
-        let mut list = ListenerList::new(alloc);
-        for hearer in &hearers {
-            list.push((hearer.object, hearer.method))?;
-        }
-        Ok(list)
     }
 
     /// Whether a listener is registered for events of the type `kind`, whatever its phase. It takes
@@ -122,14 +126,9 @@ impl Listeners {
     pub fn has(&self, kind: &Text) -> bool
         ensures { result ≡ is_heard kind.now self.now }
     {
-        self.registrations.iter().any(|r| r.is_for(kind))
-    }
-
-    fn is_registered(&self, kind: &Text, listener: (ObjId, u32), capture: bool) -> bool
-        ensures { result ≡ has_listener kind.now listener capture self.now }
-    {
-        self.registrations
-            .iter()
-            .any(|r| r.is_of(kind, listener, capture))
+        match self.kinds.number_of(kind) {
+            Some(number) => self.registrations.has_kind(number),
+            None => false,
+        }
     }
 }

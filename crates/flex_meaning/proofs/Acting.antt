@@ -13,7 +13,8 @@ use Rattle.flex_base.specs.declared.value.ObjId.{ObjId}
 use Rattle.flex_base.specs.declared.value.Value.{Value}
 use Rattle.flex_base.specs.declared.value.Value.TheVariants as value
 use Rattle.component_catalog.specs.declared.class.NativeClass.TheVariants as native
-use Rattle.flex_world.specs.Classes.{Class, StaticType}
+use Rattle.flex_world.specs.declared.kind.Class.{Class}
+use Rattle.flex_world.specs.declared.kind.StaticType.TheVariants as StaticType
 use Rattle.flex_world.specs.Events.{closed_delivery, event_path, fits_phase, hearers, insert_by_priority, is_before_bubbling, listener_of, opened_delivery, same_registration, with_registration, without_registration}
 use Rattle.flex_world.specs.Objects.{Delivery, Instance_of, Keeping, Kind, Listener, Object, Registration, ancestors_of, count, is_true, object_at, parent_of, property, text_in}
 use Rattle.flex_program.proofs.ClassLaws.{both_true}

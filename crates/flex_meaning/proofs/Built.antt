@@ -7,7 +7,8 @@ use Rattle.flex_base.specs.declared.value.ObjId.{ObjId}
 use Rattle.flex_base.specs.declared.value.Value.{Value}
 use Rattle.flex_base.specs.declared.value.Value.TheVariants as value
 use Rattle.component_catalog.specs.declared.class.NativeClass.TheVariants as native
-use Rattle.flex_world.specs.Classes.{Class, is_component, is_container, same_class}
+use Rattle.flex_world.specs.Classes.{is_component, is_container, same_class}
+use Rattle.flex_world.specs.declared.kind.Class.{Class}
 use Rattle.flex_world.specs.Events.{registration}
 use Rattle.flex_world.specs.Objects.{An_array, Instance_of, Object, watcher}
 use Rattle.flex_program.proofs.ClassLaws.{both_true, held, same_class_is, text_itself}

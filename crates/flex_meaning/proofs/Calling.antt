@@ -19,7 +19,9 @@ use Rattle.component_catalog.specs.declared.value.StartValue.TheVariants as star
 use Rattle.component_catalog.specs.declared.value.ValueType.{ValueType}
 use Rattle.component_catalog.specs.declared.value.ValueType.TheVariants as kind
 use Rattle.flex_world.specs.Children.{child_at}
-use Rattle.flex_world.specs.Classes.{Class, StaticType, descends, native_descends, static_type}
+use Rattle.flex_world.specs.Classes.{descends, native_descends, static_type}
+use Rattle.flex_world.specs.declared.kind.Class.{Class}
+use Rattle.flex_world.specs.declared.kind.StaticType.{StaticType}
 use Rattle.flex_world.specs.Conversions.{accepts, constructor_parameters, event_parameters, left_out}
 use Rattle.flex_world.specs.Making.{start_value}
 use Rattle.flex_world.specs.Events.{delivery_stopped_at_once, prevented_delivery, registration, stopped_delivery, while_open}

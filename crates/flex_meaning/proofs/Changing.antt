@@ -16,7 +16,9 @@ use Rattle.component_catalog.specs.Classes.{or_else}
 use Rattle.component_catalog.specs.Methods.{element}
 use Rattle.component_catalog.specs.declared.class.NativeClass.TheVariants as native
 use Rattle.flex_world.specs.Arrays.{element_or_undefined, most_elements, with_element, with_last, without_last}
-use Rattle.flex_world.specs.Classes.{Class, StaticType, descends, descends_from, is_component, is_container, is_event, lineage_in, same_class, static_type}
+use Rattle.flex_world.specs.Classes.{descends, descends_from, is_component, is_container, is_event, lineage_in, same_class, static_type}
+use Rattle.flex_world.specs.declared.kind.Class.{Class}
+use Rattle.flex_world.specs.declared.kind.StaticType.{StaticType}
 use Rattle.flex_world.specs.Conversions.{into_object, into_type, is_of_type, object_into}
 use Rattle.flex_world.specs.Making.{computes, new_object, object_cost}
 use Rattle.flex_world.specs.Objects.{An_array, Field, Instance_of, Kind, Object, class_of_kind, current_state, field_named, is_array, is_array_kind, is_object_among, next_object, object_at, property, with_value}

@@ -8,7 +8,9 @@ use Rattle.flex_base.specs.declared.value.ObjId.{ObjId}
 use Rattle.flex_base.specs.declared.value.Value.{Value}
 use Rattle.component_catalog.specs.declared.class.NativeClass.TheVariants as native
 use Rattle.component_catalog.specs.declared.method.NativeMethod.{NativeMethod}
-use Rattle.flex_world.specs.Classes.{Class, StaticType, descends}
+use Rattle.flex_world.specs.Classes.{descends}
+use Rattle.flex_world.specs.declared.kind.Class.{Class}
+use Rattle.flex_world.specs.declared.kind.StaticType.{StaticType}
 use Rattle.flex_world.specs.Objects.{Instance_of, Object}
 use Rattle.flex_world.specs.Operators.{negated, operate}
 use Rattle.flex_program.proofs.ClassLaws.{both_true, held}

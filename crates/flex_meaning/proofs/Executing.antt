@@ -12,11 +12,14 @@ use Rattle.flex_base.specs.declared.value.Value.{Value}
 use Rattle.flex_base.specs.declared.value.Value.TheVariants as value
 use Rattle.component_catalog.specs.Classes.{base_of}
 use Rattle.component_catalog.specs.declared.class.NativeClass.{NativeClass}
-use Rattle.flex_world.specs.Classes.{Class, StaticType, base_in, same_class}
+use Rattle.flex_world.specs.Classes.{base_in, same_class}
+use Rattle.flex_world.specs.declared.kind.Class.{Class}
+use Rattle.flex_world.specs.declared.kind.StaticType.{StaticType}
 use Rattle.flex_world.specs.Conversions.{start_of_result}
 use Rattle.flex_world.specs.Making.{start_of_type}
 use Rattle.flex_world.specs.Objects.{An_array, Object, can_be_written, field_named}
-use Rattle.flex_world.specs.Operators.{Operator, made_text, operate, spaced_text, texts_of}
+use Rattle.flex_world.specs.Operators.{made_text, operate, spaced_text, texts_of}
+use Rattle.flex_world.specs.declared.operator.Operator.{Operator}
 use Rattle.flex_program.proofs.ClassLaws.{both_true, fine_class, held, same_class_is, same_type_is}
 use Rattle.flex_program.proofs.Facts.{above, base_above, mapped_get, property_of_kept}
 use Rattle.flex_program.proofs.Inverted.{All, for_class_is, if_is, map_is, not_is, same_some, some_is, then_is}

@@ -26,12 +26,15 @@ use Rattle.component_catalog.specs.declared.method.Parameter.{Parameter}
 use Rattle.component_catalog.specs.declared.method.Parameter.TheVariants as parameter
 use Rattle.flex_world.specs.Arrays.{element_or_undefined, last_or_undefined, most_elements, with_element, with_last, without_last}
 use Rattle.flex_world.specs.Children.{child_at, place_for}
-use Rattle.flex_world.specs.Classes.{Class, StaticType, is_event, native_descends, static_type}
+use Rattle.flex_world.specs.Classes.{is_event, native_descends, static_type}
+use Rattle.flex_world.specs.declared.kind.Class.{Class}
+use Rattle.flex_world.specs.declared.kind.StaticType.{StaticType}
 use Rattle.flex_world.specs.Conversions.{accepts, constructor_parameters, into_result, into_type, left_out, start_of_result}
 use Rattle.flex_world.specs.Events.{delivery_stopped_at_once, event_path, hearers, is_registered, prevented_delivery, prevented_now, registration, stopped_delivery, while_open}
 use Rattle.flex_world.specs.Making.{new_object, object_cost}
 use Rattle.flex_world.specs.Objects.{An_array, Delivery, Field, Instance_of, Listener, Object, Spot, Watcher, ancestors_of, can_be_written, count, current_state, field_named, is_array, is_object_among, is_state_field, is_true, next_object, object_at, object_class, property, text_in}
-use Rattle.flex_world.specs.Operators.{Operator, made_text, negated, operate, spaced_text, texts_of}
+use Rattle.flex_world.specs.Operators.{made_text, negated, operate, spaced_text, texts_of}
+use Rattle.flex_world.specs.declared.operator.Operator.{Operator}
 use Rattle.flex_program.specs.Classes.{Callee, bases, callee, class_name, constructor_of, document_in, fields_of, has_property}
 use Rattle.flex_program.specs.Instances.{instance_numbered, lies_in, numbers_of, part_of, parts_of}
 use Rattle.flex_program.specs.Program.{Attribute, Binding, BindingSource, Block, Change, Constructor, Contents, Destination, Document, Expr, Exprs, Given, Givens, Instance, Method, MoreExpr, MoreStmt, NoExpr, NoStmt, Override, Part, Place, Presence, Program, State, Stmt}

@@ -5,7 +5,9 @@ use Rattle.flex_base.specs.declared.value.ObjId.{ObjId}
 use Rattle.flex_base.specs.declared.value.Value.{Value}
 use Rattle.flex_base.specs.declared.value.Value.TheVariants as value
 use Rattle.component_catalog.specs.declared.class.NativeClass.TheVariants as native
-use Rattle.flex_world.specs.Classes.{Class, StaticType, descends}
+use Rattle.flex_world.specs.Classes.{descends}
+use Rattle.flex_world.specs.declared.kind.Class.{Class}
+use Rattle.flex_world.specs.declared.kind.StaticType.{StaticType}
 use Rattle.flex_world.specs.Objects.{An_array, Field, Instance_of, Kind, Object, Registration, current_state, field_named, is_object_among, object_at}
 use Rattle.flex_program.proofs.Facts.{CanRun}
 use Rattle.flex_program.proofs.Inverted.{All}

@@ -5,7 +5,9 @@ use Rattle.std.specs.Prelude.{Bool, None, Option, Some, false, if◌then◌else�
 use Rattle.flex_base.specs.Value.{is_object}
 use Rattle.flex_base.specs.declared.value.ObjId.{ObjId}
 use Rattle.flex_base.specs.declared.value.Value.{Value}
-use Rattle.flex_world.specs.Classes.{Class, StaticType, base_in, descends, is_component, same_class}
+use Rattle.flex_world.specs.Classes.{base_in, descends, is_component, same_class}
+use Rattle.flex_world.specs.declared.kind.Class.{Class}
+use Rattle.flex_world.specs.declared.kind.StaticType.{StaticType}
 use Rattle.flex_world.specs.Objects.{Instance_of, Object, without_number}
 use Rattle.flex_program.proofs.ClassLaws.{both_true, held, same_class_is, same_number}
 use Rattle.flex_program.proofs.Facts.{base_above, descends_itself, property_of_kept}

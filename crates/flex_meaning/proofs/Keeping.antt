@@ -7,7 +7,8 @@ use Rattle.flex_base.specs.declared.outcome.Outcome.TheVariants.{Stopped, TurnsS
 use Rattle.flex_base.specs.declared.outcome.Stop.{Stop}
 use Rattle.flex_base.specs.declared.value.ObjId.{ObjId}
 use Rattle.flex_base.specs.declared.value.Value.{Value}
-use Rattle.flex_world.specs.Classes.{Class, StaticType}
+use Rattle.flex_world.specs.declared.kind.Class.{Class}
+use Rattle.flex_world.specs.declared.kind.StaticType.{StaticType}
 use Rattle.flex_world.specs.Objects.{An_array, Instance_of, Kind, Object, changed_object, is_object_among, next_object, object_at}
 use Rattle.flex_program.proofs.Inverted.{All, all_get, all_map, map_is, same_some, some_is}
 use Rattle.flex_program.specs.Classes.{document_of}

@@ -5,7 +5,7 @@ use Rattle.flex_base.specs.declared.event.Arrival.{Arrival}
 use Rattle.flex_base.specs.declared.value.ObjId.{ObjId}
 use Rattle.flex_base.specs.declared.value.Value.{Value}
 use Rattle.flex_base.specs.declared.value.Value.TheVariants as value
-use Rattle.flex_world.specs.Classes.{Class}
+use Rattle.flex_world.specs.declared.kind.Class.{Class}
 use Rattle.flex_world.specs.Objects.{Instance_of, Listener, Object}
 use Rattle.flex_program.proofs.Facts.{CanRun}
 use Rattle.flex_program.specs.Classes.{constructor_of}

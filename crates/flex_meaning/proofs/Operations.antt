@@ -14,10 +14,13 @@ use Rattle.component_catalog.specs.Classes.{or_else}
 use Rattle.component_catalog.specs.Methods.{element}
 use Rattle.component_catalog.specs.declared.class.NativeClass.{NativeClass}
 use Rattle.component_catalog.specs.declared.class.NativeClass.TheVariants as native
-use Rattle.flex_world.specs.Classes.{Class, StaticType, lineage_in, static_type}
+use Rattle.flex_world.specs.Classes.{lineage_in, static_type}
+use Rattle.flex_world.specs.declared.kind.Class.{Class}
+use Rattle.flex_world.specs.declared.kind.StaticType.{StaticType}
 use Rattle.flex_world.specs.Making.{native_fields, new_object, start_of_type}
 use Rattle.flex_world.specs.Objects.{An_array, Field, Instance_of, Object, can_be_written, computed_property, count, field_named, property, property_or, ref_or_null}
-use Rattle.flex_world.specs.Operators.{Operator, negated, on_ints, operate, truth, untruth, whole}
+use Rattle.flex_world.specs.Operators.{negated, on_ints, operate, truth, untruth, whole}
+use Rattle.flex_world.specs.declared.operator.Operator.{Operator}
 use Rattle.flex_program.proofs.ClassLaws.{both_true, fine_class, same_text}
 use Rattle.flex_program.proofs.Inverted.{All, all_append, all_found, if_is, map_is, same_some, then_is}
 use Rattle.flex_program.specs.Classes.{bases, fields_of, own_fields, own_variables, variable_field}

@@ -15,7 +15,9 @@ use Rattle.flex_base.specs.declared.value.Value.TheVariants as value
 use Rattle.component_catalog.specs.Events.{change, click, creation_complete}
 use Rattle.component_catalog.specs.declared.class.NativeClass.{NativeClass}
 use Rattle.component_catalog.specs.declared.class.NativeClass.TheVariants as native
-use Rattle.flex_world.specs.Classes.{Class, StaticType, base_in, descends, descends_from, same_class, upward_in}
+use Rattle.flex_world.specs.Classes.{base_in, descends, descends_from, same_class, upward_in}
+use Rattle.flex_world.specs.declared.kind.Class.{Class}
+use Rattle.flex_world.specs.declared.kind.StaticType.{StaticType}
 use Rattle.flex_world.specs.Objects.{Field, Instance_of, Kind, Object, can_be_written, field_named, object_at, object_class}
 use Rattle.flex_program.proofs.ClassLaws.{both_true, fine_class, fine_names, found_behind, held, lineage_is, same_class_is, text_itself}
 use Rattle.flex_program.proofs.Facts.{CanRun, above, base_above, descends_itself, four_more, mapped_get}

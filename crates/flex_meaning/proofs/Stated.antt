@@ -8,7 +8,8 @@ use Rattle.flex_base.specs.declared.value.ObjId.{ObjId}
 use Rattle.flex_base.specs.declared.value.Value.{Value}
 use Rattle.flex_base.specs.declared.value.Value.TheVariants as value
 use Rattle.component_catalog.specs.declared.class.NativeClass.TheVariants as native
-use Rattle.flex_world.specs.Classes.{Class, is_component, is_container, same_class}
+use Rattle.flex_world.specs.Classes.{is_component, is_container, same_class}
+use Rattle.flex_world.specs.declared.kind.Class.{Class}
 use Rattle.flex_world.specs.Objects.{Field, Instance_of, Object, computed_property, current_state, field_named, object_at, parent_of, property, property_or}
 use Rattle.flex_program.proofs.ClassLaws.{both_true, held, same_number, same_text}
 use Rattle.flex_program.proofs.Facts.{above, container_component, property_of_kept}

@@ -13,7 +13,9 @@ use Rattle.flex_base.specs.declared.value.Value.TheVariants as value
 use Rattle.component_catalog.specs.Events.{Event, creation_complete, current_state_change}
 use Rattle.component_catalog.specs.declared.class.NativeClass.TheVariants as native
 use Rattle.flex_world.specs.Children.{joined_to, place_for, without_child}
-use Rattle.flex_world.specs.Classes.{Class, StaticType, descends, is_component, lineage_in, upward_in}
+use Rattle.flex_world.specs.Classes.{descends, is_component, lineage_in, upward_in}
+use Rattle.flex_world.specs.declared.kind.Class.{Class}
+use Rattle.flex_world.specs.declared.kind.StaticType.{StaticType}
 use Rattle.flex_world.specs.Events.{is_registered}
 use Rattle.flex_world.specs.Making.{computes}
 use Rattle.flex_world.specs.Objects.{An_array, Field, Instance_of, Kind, Object, Spot, Watcher, ancestors_of, can_be_written, changed_object, class_of_kind, computed_property, current_state, field_named, following, is_number_among, is_object_among, is_state_field, object_at, object_class, property_or, text_in, watcher, with_value}

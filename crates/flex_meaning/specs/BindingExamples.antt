@@ -1,12 +1,13 @@
 -- What small programs with bindings mean.
-use Rattle.flex_world.specs.Operators.{Operator}
+use Rattle.flex_world.specs.declared.operator.Operator.TheVariants as Operator
 use Rattle.std.specs.Prelude.{List, None, Some, [], codes, false, pos, true, ℕ, ◌++◌, ◌∷◌, ◌≡◌}
 use Rattle.flex_base.specs.declared.event.UserEvent.TheVariants as user
 use Rattle.flex_base.specs.declared.record.TraceItem.{TraceItem}
 use Rattle.flex_base.specs.declared.record.TraceItem.TheVariants.{Traced, User}
 use Rattle.flex_base.specs.declared.value.Value.TheVariants as value
 use Rattle.component_catalog.specs.declared.class.NativeClass.TheVariants as native
-use Rattle.flex_world.specs.Classes.{Class, StaticType}
+use Rattle.flex_world.specs.declared.kind.Class.TheVariants as Class
+use Rattle.flex_world.specs.declared.kind.StaticType.{StaticType}
 use Rattle.flex_program.specs.Program.{Attribute, Contents, Expr, Instance, NoExpr, Place, Program, SourceClass, Stmt, Variable}
 use Rattle.flex_meaning.specs.Terms.{added, alone, application, block, call_my, root_is_complete, document, ended, handler, id_of, made, member, my, my_place, number, object_value, of_class, one_way, plain_variable, procedure, root, sent, tag, text, texts, two_way, when_complete, written}
 use Rattle.flex_meaning.specs.Trace.{source_trace}

@@ -1,10 +1,11 @@
 -- What small programs with classes and events of their own mean.
-use Rattle.flex_world.specs.Operators.{Operator}
+use Rattle.flex_world.specs.declared.operator.Operator.TheVariants as Operator
 use Rattle.std.specs.Prelude.{Bool, List, None, Option, Some, [], codes, false, pos, true, ℕ, ◌++◌, ◌∷◌, ◌≡◌}
 use Rattle.flex_base.specs.declared.record.TraceItem.TheVariants.{Traced}
 use Rattle.flex_base.specs.declared.value.Value.TheVariants as value
 use Rattle.component_catalog.specs.declared.class.NativeClass.TheVariants as native
-use Rattle.flex_world.specs.Classes.{Class, StaticType}
+use Rattle.flex_world.specs.declared.kind.Class.{Class}
+use Rattle.flex_world.specs.declared.kind.StaticType.{StaticType}
 use Rattle.flex_program.specs.Program.{Expr, Literal, Member, Method, NoExpr, Place, Program, SourceClass, Stmt, Variable}
 use Rattle.flex_meaning.specs.Terms.{application, block, document, ended, exprs, heard, made, member, my, my_place, number, of_class, plain_variable, procedure, root, root_is_complete, sent, text, when_complete, written}
 use Rattle.flex_meaning.specs.Trace.{source_trace}

@@ -4,7 +4,8 @@ use Rattle.flex_base.specs.declared.value.Value.{Value}
 use Rattle.flex_base.specs.declared.value.Value.TheVariants as value
 use Rattle.component_catalog.specs.declared.method.Parameter.{Parameter}
 use Rattle.component_catalog.specs.declared.method.Parameter.TheVariants.{Required, Optional, Listener}
-use Rattle.flex_world.specs.Classes.{StaticType, static_type}
+use Rattle.flex_world.specs.Classes.{static_type}
+use Rattle.flex_world.specs.declared.kind.StaticType.{StaticType}
 use Rattle.flex_world.specs.Conversions.{accepts, into_result, into_type, left_out}
 use Rattle.flex_program.specs.Classes.{bases}
 use Rattle.flex_program.specs.Program.{Method, Program}

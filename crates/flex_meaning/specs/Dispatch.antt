@@ -7,7 +7,7 @@ use Rattle.flex_base.specs.declared.value.ObjId.{ObjId}
 use Rattle.flex_base.specs.declared.value.Value.{Value}
 use Rattle.flex_base.specs.declared.value.Value.TheVariants as value
 use Rattle.component_catalog.specs.Events.{Event}
-use Rattle.flex_world.specs.Classes.{Class}
+use Rattle.flex_world.specs.declared.kind.Class.TheVariants as Class
 use Rattle.flex_world.specs.Events.{closed_delivery, event_path, hearers, is_registered, opened_delivery}
 use Rattle.flex_world.specs.Objects.{Listener, Object, ancestors_of, count, is_true, property, text_in}
 use Rattle.flex_meaning.specs.Activities.{Context, Hears, carry_out}

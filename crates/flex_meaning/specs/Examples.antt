@@ -1,12 +1,12 @@
 -- What small programs mean, record by record.
-use Rattle.flex_world.specs.Operators.{Operator}
+use Rattle.flex_world.specs.declared.operator.Operator.TheVariants as Operator
 use Rattle.std.specs.Prelude.{List, None, Some, [], codes, false, pos, true, ℕ, ◌++◌, ◌∷◌, ◌≡◌}
 use Rattle.flex_base.specs.declared.outcome.Stop.TheVariants as stop
 use Rattle.flex_base.specs.declared.record.TraceItem.{TraceItem}
 use Rattle.flex_base.specs.declared.record.TraceItem.TheVariants.{Traced, User}
 use Rattle.flex_base.specs.declared.value.Value.TheVariants as value
 use Rattle.component_catalog.specs.declared.class.NativeClass.TheVariants as native
-use Rattle.flex_world.specs.Classes.{StaticType}
+use Rattle.flex_world.specs.declared.kind.StaticType.TheVariants as StaticType
 use Rattle.flex_program.specs.Program.{Attribute, Contents, Expr, Instance, Literal, Member, Method, NoExpr, NoStmt, Place, Program, Stmt, Variable}
 use Rattle.flex_meaning.specs.Terms.{added, alone, application, block, clicks_on, document, ended, exprs, handler, heard, id_of, made, my, my_place, number, object_value, of_class, plain_variable, procedure, root, sent, spent, stopped, tag, text, written}
 use Rattle.flex_meaning.specs.Trace.{source_trace}

@@ -1,5 +1,5 @@
 -- What a contact form of three classes means.
-use Rattle.flex_world.specs.Operators.{Operator}
+use Rattle.flex_world.specs.declared.operator.Operator.TheVariants as Operator
 use Rattle.std.specs.Prelude.{List, None, Some, [], codes, false, true, ℕ, ◌++◌, ◌∷◌, ◌≡◌}
 use Rattle.flex_base.specs.declared.event.UserEvent.{UserEvent}
 use Rattle.flex_base.specs.declared.event.UserEvent.TheVariants as user
@@ -8,7 +8,8 @@ use Rattle.flex_base.specs.declared.record.TraceItem.TheVariants.{Missed, Traced
 use Rattle.flex_base.specs.declared.value.Value.{Value}
 use Rattle.flex_base.specs.declared.value.Value.TheVariants as value
 use Rattle.component_catalog.specs.declared.class.NativeClass.TheVariants as native
-use Rattle.flex_world.specs.Classes.{Class, StaticType}
+use Rattle.flex_world.specs.declared.kind.Class.TheVariants as Class
+use Rattle.flex_world.specs.declared.kind.StaticType.{StaticType}
 use Rattle.flex_program.specs.Program.{Attribute, Change, Contents, Document, Expr, Instance, Literal, NoStmt, Override, Program, SourceClass, Stmt, Variable}
 use Rattle.flex_meaning.specs.Terms.{added, block, call_my, children, clicks_on, document, ended, exprs, handler, heard, holding, id_of, instance, made, member, my, my_place, object_value, one_way, plain_variable, procedure, removed, sent, tag, text, texts, two_way, written}
 use Rattle.flex_meaning.specs.Trace.{source_trace}

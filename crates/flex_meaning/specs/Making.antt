@@ -5,7 +5,8 @@ use Rattle.flex_base.specs.declared.value.ObjId.{ObjId}
 use Rattle.flex_base.specs.declared.value.Value.{Value}
 use Rattle.flex_base.specs.declared.value.Value.TheVariants as value
 use Rattle.component_catalog.specs.declared.class.NativeClass.TheVariants as native
-use Rattle.flex_world.specs.Classes.{Class, native_descends}
+use Rattle.flex_world.specs.Classes.{native_descends}
+use Rattle.flex_world.specs.declared.kind.Class.{Class}
 use Rattle.flex_world.specs.Conversions.{constructor_parameters}
 use Rattle.flex_program.specs.Classes.{constructor_of}
 use Rattle.flex_program.specs.Program.{Constructor}

@@ -3,7 +3,8 @@ use Rattle.std.specs.Prelude.{List, [], if◌then◌else◌, length, ℕ, ◌+�
 use Rattle.flex_base.specs.declared.record.TraceItem.TheVariants.{Made}
 use Rattle.flex_base.specs.declared.value.ObjId.{ObjId}
 use Rattle.flex_base.specs.declared.value.Value.{Value}
-use Rattle.flex_world.specs.Classes.{Class, is_event}
+use Rattle.flex_world.specs.Classes.{is_event}
+use Rattle.flex_world.specs.declared.kind.Class.{Class}
 use Rattle.flex_world.specs.Making.{new_object, object_cost}
 use Rattle.flex_world.specs.Objects.{An_array, Instance_of, next_object, property}
 use Rattle.flex_program.specs.Classes.{bases, class_name, fields_of, has_property}

@@ -1,5 +1,5 @@
 -- What small programs with view states mean.
-use Rattle.flex_world.specs.Operators.{Operator}
+use Rattle.flex_world.specs.declared.operator.Operator.TheVariants as Operator
 use Rattle.std.specs.Prelude.{List, Option, Some, [], codes, false, ℕ, ◌++◌, ◌∷◌, ◌≡◌}
 use Rattle.flex_base.specs.declared.event.UserEvent.{UserEvent}
 use Rattle.flex_base.specs.declared.event.UserEvent.TheVariants as user
@@ -7,7 +7,7 @@ use Rattle.flex_base.specs.declared.record.TraceItem.{TraceItem}
 use Rattle.flex_base.specs.declared.record.TraceItem.TheVariants.{User}
 use Rattle.flex_base.specs.declared.value.Value.TheVariants as value
 use Rattle.component_catalog.specs.declared.class.NativeClass.TheVariants as native
-use Rattle.flex_world.specs.Classes.{Class}
+use Rattle.flex_world.specs.declared.kind.Class.TheVariants as Class
 use Rattle.flex_program.specs.Program.{Attribute, Change, Contents, Expr, Instance, Literal, NoStmt, Override, Presence, Program, State, Stmt}
 use Rattle.flex_meaning.specs.Terms.{added, alone, application, block, document, ended, handler, heard, id_of, made, my, my_place, object_value, one_way, root, sent, tag, text, written}
 use Rattle.flex_meaning.specs.Trace.{source_trace}

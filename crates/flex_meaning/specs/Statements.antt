@@ -7,10 +7,12 @@ use Rattle.flex_base.specs.declared.record.TraceItem.TheVariants.{Traced}
 use Rattle.flex_base.specs.declared.value.ObjId.{ObjId}
 use Rattle.flex_base.specs.declared.value.Value.{Value}
 use Rattle.flex_base.specs.declared.value.Value.TheVariants as value
-use Rattle.flex_world.specs.Classes.{Class, StaticType}
+use Rattle.flex_world.specs.declared.kind.Class.{Class}
+use Rattle.flex_world.specs.declared.kind.StaticType.{StaticType}
 use Rattle.flex_world.specs.Conversions.{start_of_result}
 use Rattle.flex_world.specs.Making.{start_of_type}
-use Rattle.flex_world.specs.Operators.{Operator, made_text, operate, spaced_text, texts_of}
+use Rattle.flex_world.specs.Operators.{made_text, operate, spaced_text, texts_of}
+use Rattle.flex_world.specs.declared.operator.Operator.{Operator}
 use Rattle.flex_program.specs.Program.{Block, Expr, Method, MoreStmt, NoStmt, Place, Stmt}
 use Rattle.flex_meaning.specs.Activities.{Context}
 use Rattle.flex_meaning.specs.Arrays.{read_element, write_element}

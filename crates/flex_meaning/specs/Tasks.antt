@@ -6,7 +6,7 @@ use Rattle.flex_base.specs.declared.record.TraceItem.TheVariants.{Heard}
 use Rattle.flex_base.specs.declared.value.ObjId.{ObjId}
 use Rattle.flex_base.specs.declared.value.Value.{Value}
 use Rattle.flex_base.specs.declared.value.Value.TheVariants as value
-use Rattle.flex_world.specs.Classes.{Class}
+use Rattle.flex_world.specs.declared.kind.Class.{Class}
 use Rattle.flex_program.specs.Program.{Constructor, Document, Expr, Program, SourceClass}
 use Rattle.flex_meaning.specs.Activities.{Builds_document, Builds_instance, Calls, Constructs, Context, Does, Enters, Hears, Leaves, Runs_binding, carry_out}
 use Rattle.flex_meaning.specs.Bindings.{run_binding}

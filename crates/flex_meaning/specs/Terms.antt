@@ -12,7 +12,8 @@ use Rattle.flex_base.specs.declared.value.Value.{Value}
 use Rattle.flex_base.specs.declared.value.Value.TheVariants as value
 use Rattle.component_catalog.specs.declared.class.NativeClass.{NativeClass}
 use Rattle.component_catalog.specs.declared.class.NativeClass.TheVariants as native
-use Rattle.flex_world.specs.Classes.{Class, StaticType}
+use Rattle.flex_world.specs.declared.kind.Class.{Class}
+use Rattle.flex_world.specs.declared.kind.StaticType.{StaticType}
 use Rattle.flex_program.specs.Program.{Attribute, Binding, BindingSource, Block, Chain, Contents, Destination, Document, Expr, Exprs, Instance, Literal, Member, Method, MoreExpr, MoreStmt, NoExpr, NoStmt, Place, Presence, Program, SourceClass, State, Stmt, Variable}
 
 -- the number of an object

@@ -5,7 +5,7 @@ use Rattle.flex_base.specs.declared.event.UserEvent.{UserEvent}
 use Rattle.flex_base.specs.declared.outcome.Outcome.{Outcome}
 use Rattle.flex_base.specs.declared.outcome.Outcome.TheVariants.{Ended}
 use Rattle.component_catalog.specs.Events.{creation_complete}
-use Rattle.flex_world.specs.Classes.{Class}
+use Rattle.flex_world.specs.declared.kind.Class.TheVariants as Class
 use Rattle.flex_program.specs.Program.{Program}
 use Rattle.flex_meaning.specs.Activities.{Context}
 use Rattle.flex_meaning.specs.Dispatch.{announce}

@@ -1,5 +1,5 @@
 -- Fields that are filled with values.
-use Rattle.std.proofs.Common.{List, [], ◌∷◌, ◌≡◌, ◌∙◌, Bool, true, false, map, refl, ap, sym, subst, cond, length, ℕ, ◌≤◌, ◌+◌, ◌++◌, take, zero, suc, arith}
+use Rattle.std.proofs.Common.{List, [], ◌∷◌, ◌≡◌, ◌∙◌, Bool, true, false, map, refl, ap, sym, cond, length, ℕ, ◌≤◌, ◌+◌, ◌++◌, take, zero, suc, arith}
 use Rattle.std.proofs.lemmas.List.{length-append}
 use Rattle.std.specs.Prelude.{None, Option, Some, option_and_then, option_map, slice_get, slice_set}
 use Rattle.std.specs.Str.{bytes_eq}
@@ -92,7 +92,20 @@ watched_alike key (f ∷ fields) (v ∷ values) e = by (watched_alike key fields
     by rest true = refl
     by rest false = rest
 
--- and so is whether it is a variable or an id
+-- and so is all of it but its value
+pub told_alike : (x : Value) (key : List ℕ) (fields : List Field) (values : List Value)
+    → length values ≡ length fields → option_map (holding x) (field_named key (filled fields values)) ≡ option_map (holding x) (field_named key fields)
+told_alike x key [] values e = refl
+told_alike x key (f ∷ fields) [] e = absurd (cc)
+told_alike x key (f ∷ fields) (v ∷ values) e = by (told_alike x key fields values (omega (arith, e))) (bytes_eq f.name key)
+  where
+    by : option_map (holding x) (field_named key (filled fields values)) ≡ option_map (holding x) (field_named key fields)
+        → (b : Bool)
+        → option_map (holding x) (cond b (Some (holding v f)) (field_named key (filled fields values))) ≡ option_map (holding x) (cond b (Some f) (field_named key fields))
+    by rest true = refl
+    by rest false = rest
+
+-- and whether it is a variable or an id
 pub slots_alike : (fields : List Field) (values : List Value) (n : ℕ)
     → length values ≡ length fields → is_slot_in (slice_get (filled fields values) n) ≡ is_slot_in (slice_get fields n)
 slots_alike [] values n e = refl

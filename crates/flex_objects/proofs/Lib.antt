@@ -1,3 +1,5 @@
+pub mod Booleans
+pub mod Once
 pub mod Positions
 pub mod Tables
 pub mod Fields

@@ -1,16 +1,16 @@
 -- The properties of a class of the catalog are added one after another.
-use Rattle.std.proofs.Common.{List, [], ◌∷◌, ◌++◌, ◌≡◌, ◌∙◌, Bool, true, false, map, refl, ap, sym, subst, cond, get_or, drop, not}
+use Rattle.std.proofs.Common.{List, [], ◌∷◌, ◌++◌, ◌≡◌, ◌∙◌, Bool, true, false, map, refl, ap, sym, cond, get_or, drop, not}
 use Rattle.std.proofs.lemmas.List.{append-nil, append_assoc}
 use Rattle.std.specs.List.{filter, fold, list_all, list_any}
-use Rattle.std.specs.Prelude.{None, Option, Some, is_none, ℕ, ◌&&◌, ◌||◌}
+use Rattle.std.specs.Prelude.{None, Some, is_none, ℕ, ◌&&◌}
 use Rattle.std.specs.Str.{bytes_eq}
 use Rattle.component_catalog.specs.Laws.{are_distinct}
 use Rattle.component_catalog.specs.Properties.{Property, properties, property_of}
 use Rattle.component_catalog.specs.declared.class.NativeClass.{NativeClass}
 use Rattle.component_catalog.specs.declared.class.NativeClass.TheVariants as class
-use Rattle.component_catalog.specs.declared.property.PropertyRow.{PropertyRow}
 use Rattle.flex_world.specs.Making.{is_computed, native_field, native_fields}
 use Rattle.flex_world.specs.Objects.{Field, field_named}
+use Rattle.flex_objects.proofs.Booleans.{both, denied, neither}
 use Rattle.flex_objects.specs.Properties.{has_room_for, is_free, with_named, with_row}
 
 abbrev pub name_of : Property → List ℕ
@@ -84,18 +84,6 @@ module _ (c : NativeClass) where
   abbrev pub Ready : List Field → List (List ℕ) → Type 0
   Ready fields [] = Unit {0}
   Ready fields (name ∷ names) = (is_free fields name ≡ true) × Ready (with_named c fields name) names
-
-both : (a b : Bool) → (a && b) ≡ true → (a ≡ true) × (b ≡ true)
-both true b e = (refl, e)
-both false b e = absurd (cc)
-
-neither : (a b : Bool) → (a || b) ≡ false → (a ≡ false) × (b ≡ false)
-neither true b e = absurd (cc)
-neither false b e = (refl, e)
-
-denied : (b : Bool) → not b ≡ true → b ≡ false
-denied true e = absurd (cc)
-denied false e = refl
 
 free_push : (fields : List Field) (g : Field) (key : List ℕ) → is_free fields key ≡ true → bytes_eq g.name key ≡ false → is_free (fields ++ g ∷ []) key ≡ true
 free_push [] g key free other = ap (λ b. is_none (cond b (Some g) None)) other

@@ -2,8 +2,8 @@
 use Rattle.std.proofs.Common.{List, [], ◌∷◌, ◌≡◌, ◌∙◌, Bool, true, false, map, ℕ, refl, ap, sym, subst, zero, suc, take, ◌++◌, ◌+◌, ◌≤◌, arith, length, cond}
 use Rattle.std.proofs.lemmas.Bool.Decides.{nat_tests}
 use Rattle.std.specs.List.{insert, position, position_or_len, remove}
-use Rattle.std.specs.Prelude.{None, Option, Some, nat_lt, not, slice_get}
-use Rattle.flex_base.specs.Lists.{changed_at, one_later}
+use Rattle.std.specs.Prelude.{None, Option, Some, nat_lt, not, slice_get, unwrap_or}
+use Rattle.flex_base.specs.Lists.{one_later}
 
 lifted : (n : ℕ) (b : Bool) → cond b (Some (suc n)) None ≡ one_later (cond b (Some n) None)
 lifted n true = refl
@@ -84,3 +84,6 @@ take_step [] zero = refl
 take_step [] (suc n) = refl
 take_step (x ∷ xs) zero = refl
 take_step (x ∷ xs) (suc n) = ap (λ l. x ∷ l) (take_step xs n)
+
+pub found_or_last : (n l : ℕ) → n ≤ l → unwrap_or (cond (nat_lt n l) (Some n) None) l ≡ n
+found_or_last n l h = grind (arith, nat_tests)

@@ -1,15 +1,15 @@
 -- Keys that are looked up in a table of properties.
 use Rattle.std.proofs.Common.{List, [], ◌∷◌, ◌≡◌, ◌∙◌, Bool, true, false, map, refl, ap, sym, subst, cond}
+use Rattle.std.proofs.lemmas.Slice.Eq.{bytes_eq-Decides}
 use Rattle.std.specs.Cmp.Lexicographic.{nat_list_eq_equiv}
-use Rattle.std.specs.HashMap.{keys}
 use Rattle.std.specs.List.{position}
 use Rattle.std.specs.Map.{lookup}
-use Rattle.std.specs.Prelude.{None, Option, Some, String, is_none, ℕ}
+use Rattle.std.specs.Prelude.{None, Option, Some, String, is_none, option_map, ℕ}
 use Rattle.std.specs.Str.{bytes_eq}
 use Rattle.std.specs.String.{string_bytes}
 use Rattle.flex_base.specs.Lists.{one_later}
 use Rattle.flex_world.specs.Objects.{Field, field_named}
-use Rattle.flex_objects.specs.Properties.{is_watched, place_of}
+use Rattle.flex_objects.specs.Properties.{is_watched, place_of, slot_field}
 use Rattle.flex_objects.specs.Tables.{entry_field}
 use Rattle.flex_objects.specs.declared.slots.Slot.{Slot}
 use Rattle.flex_objects.proofs.Positions.{position_step}
@@ -39,6 +39,19 @@ module _ {A : Type 0} (key : List ℕ) where
           → (b : Bool) → is_watched (cond b (Some (entry_field e)) (field_named key (map entry_field es))) ≡ is_bindable (cond b (Some e.1) (lookup is_key es))
       by rest true = refl
       by rest false = rest
+
+  -- the property of a key, as a new object has it
+  pub found_kept : (es : List (String A × Slot)) → option_map (slot_field key) (lookup is_key es) ≡ field_named key (map entry_field es)
+  found_kept [] = refl
+  found_kept (e ∷ es) =
+      by (found_kept es) (is_key e.0) refl
+      ∙ ap (λ b. cond b (Some (entry_field e)) (field_named key (map entry_field es))) (bytes_eq_symmetric key (string_bytes e.0))
+    where
+      by : option_map (slot_field key) (lookup is_key es) ≡ field_named key (map entry_field es)
+          → (b : Bool) → is_key e.0 ≡ b
+          → option_map (slot_field key) (cond b (Some e.1) (lookup is_key es)) ≡ cond b (Some (entry_field e)) (field_named key (map entry_field es))
+      by rest true is = ap (λ k. Some (slot_field k e.1)) ((bytes_eq-Decides key (string_bytes e.0)).0 is)
+      by rest false is = rest
 
   pub absent : (es : List (String A × Slot)) → is_none (field_named key (map entry_field es)) ≡ true → lookup is_key es ≡ None
   absent [] free = refl

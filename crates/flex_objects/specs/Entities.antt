@@ -1,16 +1,12 @@
 -- What the stage keeps for an object: the object that the source knows, and what the source knows nothing of.
-use Rattle.std.specs.List.{list_any}
 use Rattle.std.specs.Prelude.{Bool, List, None, Option, Some, [], false, if◌then◌else◌, is_some, nat_lt, negsuc, option_map, pos, slice_get, true, ℕ, ℤ, ◌&&◌, ◌∷◌}
-use Rattle.std.specs.Str.{bytes_eq}
 use Rattle.component_catalog.specs.Classes.{or_else}
 use Rattle.component_catalog.specs.Properties.{property_of}
 use Rattle.component_catalog.specs.declared.class.NativeClass.{NativeClass}
 use Rattle.flex_base.specs.declared.value.ObjId.{ObjId}
 use Rattle.flex_base.specs.declared.value.Value.{Value}
 use Rattle.flex_world.specs.Children.{joined_to}
-use Rattle.flex_world.specs.Classes.{Class}
-use Rattle.flex_world.specs.Kinds.{class_of}
-use Rattle.flex_world.specs.declared.kind.Class as declared
+use Rattle.flex_world.specs.declared.kind.Class.{Class}
 use Rattle.flex_objects.specs.Properties.{after_write, stored}
 use Rattle.flex_objects.specs.declared.properties.Stored.{Stored}
 use Rattle.flex_world.specs.Making.{is_computed, new_object}
@@ -62,9 +58,9 @@ abbrev pub new_instance : Shape → Entity
 new_instance shape = new_entity (Instance_of shape.class) shape.native shape.fields shape.hidden
 
 -- an array has no class
-abbrev pub kind_of : Option declared.Class → Kind
+abbrev pub kind_of : Option Class → Kind
 kind_of None = An_array
-kind_of (Some class) = Instance_of (class_of class)
+kind_of (Some class) = Instance_of class
 
 -- a class of the catalog computes a property of this name
 abbrev pub computes : Option NativeClass → List ℕ → Bool

@@ -1,3 +1,4 @@
 pub mod Tables
 pub mod Properties
 pub mod Entities
+pub mod Once

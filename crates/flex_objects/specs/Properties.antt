@@ -9,7 +9,6 @@ use Rattle.component_catalog.specs.declared.class.NativeClass.{NativeClass}
 use Rattle.flex_base.specs.Lists.{one_later}
 use Rattle.flex_base.specs.Value.{same}
 use Rattle.flex_base.specs.declared.value.Value.{Value}
-use Rattle.flex_world.specs.Kinds.{type_of}
 use Rattle.flex_world.specs.Making.{is_computed, native_field}
 use Rattle.flex_world.specs.Objects.{Field, field_named, with_value}
 use Rattle.flex_objects.specs.declared.slots.Slot.{Slot}
@@ -21,7 +20,7 @@ abbrev pub slot_field : List ℕ → Slot → Field
 slot_field key slot = record {
   name = key;
   text = slot.text;
-  type = type_of slot.kind;
+  type = slot.kind;
   public = slot.public;
   bindable = slot.bindable;
   read_only = slot.read_only;

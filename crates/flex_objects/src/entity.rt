@@ -2,7 +2,6 @@
 
 ghost use Rattle.std.specs.Option.{option_copied};
 ghost use Rattle.std.specs.Prelude.{◌≡◌, IfOk, None, option_and_then, option_map};
-ghost use Rattle.flex_world.specs.Kinds.{class_of};
 ghost use Rattle.flex_world.specs.Objects.{is_array, object_class, object_in_slot};
 ghost use Rattle.flex_objects.specs.Entities.{added_to, after_write_in, computed, kept, kind_of, new_array, new_entity, new_instance, value_of, stored_in};
 
@@ -36,13 +35,12 @@ pub struct ClassInfo {
 }
 
 impl Model for ClassInfo {
-    ghost use Rattle.flex_world.specs.Kinds.{class_of};
     ghost use Rattle.flex_objects.specs.Entities.{Shape};
 
     ghost Value = { Shape };
 
     ghost view = { λ c. record {
-      class = class_of c.class;
+      class = c.class;
       native = c.native;
       fields = c.fields.value;
       hidden = c.hidden.value;
@@ -188,7 +186,7 @@ impl Entity {
 
     /// The class; an array has none.
     pub fn class(&self) -> Option<Class>
-        ensures { option_map class_of result ≡ object_class self.now.object }
+        ensures { result ≡ object_class self.now.object }
     {
         self.class
     }

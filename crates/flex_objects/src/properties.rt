@@ -4,10 +4,11 @@ ghost use Rattle.std.specs.Option.{option_copied};
 ghost use Rattle.std.specs.Prelude.{◌≡◌, [], IfOk, length, option_and_then, option_map, slice_get};
 ghost use Rattle.flex_base.specs.Lists.{changed_at};
 ghost use Rattle.flex_base.specs.Value.{ref_of};
+ghost use Rattle.flex_base.specs.declared.value.Value.{Value};
 ghost use Rattle.flex_world.specs.Objects.{field_named, object_in_slot, with_value};
-ghost use Rattle.flex_objects.specs.Properties.{after_write, filled, holding, is_slot_in, is_watched, items_of, place_of, stored};
+ghost use Rattle.flex_objects.specs.Properties.{after_write, filled, holding, is_slot_in, is_watched, items_of, place_of, slot_field, stored};
 
-use crate::slots::SlotTable;
+use crate::slots::{Slot, SlotTable};
 use flex_base::{NoMemory, ObjId, Value, same};
 use std::alloc::Global;
 use std::marker::Model;
@@ -97,6 +98,17 @@ impl Properties {
     {
         match self.place_of(key) {
             Some(place) => self.get_at(place),
+            None => None,
+        }
+    }
+
+    /// What the class tells of the property of a key; `None` exactly where there is none.
+    pub fn slot(&self, key: &str) -> Option<&Slot>
+        ensures { (v : Value) → option_map (λ slot. holding v (slot_field key.now slot)) (option_copied result)
+            ≡ option_map (holding v) (field_named key.now self.now) }
+    {
+        match &self.table {
+            Some(table) => table.get(key),
             None => None,
         }
     }

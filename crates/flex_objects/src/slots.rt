@@ -1,8 +1,8 @@
 // The properties of a class.
 
-ghost use Rattle.std.specs.Prelude.{◌≡◌, [], ◌++◌, ◌∷◌, IsTrue, IfOk, OnOk, length, map, slice_get};
+ghost use Rattle.std.specs.Option.{option_copied};
+ghost use Rattle.std.specs.Prelude.{◌≡◌, [], ◌++◌, ◌∷◌, IsTrue, IfOk, OnOk, length, map, option_map, slice_get};
 ghost use Rattle.flex_world.specs.Classes.{static_type};
-ghost use Rattle.flex_world.specs.Kinds.{type_of};
 ghost use Rattle.flex_world.specs.Objects.{field_named};
 ghost use Rattle.flex_world.specs.Making.{is_computed, native_field, native_fields, slots, start_value};
 ghost use Rattle.flex_objects.specs.Properties.{has_room_for, is_free, is_slot_in, is_watched, place_of, slot_field, with_named};
@@ -140,6 +140,13 @@ impl SlotTable {
         self.slots.get_index_of(key)
     }
 
+    /// The property of a key, as a new object has it; `None` exactly where there is none.
+    pub fn get(&self, key: &str) -> Option<&Slot>
+        ensures { option_map (slot_field key.now) (option_copied result) ≡ field_named key.now self.now }
+    {
+        self.slots.get(key)
+    }
+
     /// Whether bindings watch the property of a key.
     pub fn is_bindable(&self, key: &str) -> bool
         ensures { result ≡ is_watched (field_named key.now self.now) }
@@ -189,7 +196,7 @@ fn native_slot(alloc: Global, name: &str, row: PropertyRow) -> Result<Slot, NoMe
 
 // A type of the catalog.
 fn static_type(kind: ValueType) -> StaticType
-    ensures { type_of result ≡ static_type kind }
+    ensures { result ≡ static_type kind }
 {
     match kind {
         ValueType::Int => StaticType::Int,

@@ -14,7 +14,9 @@ use Rattle.component_catalog.specs.declared.method.Parameter.{Parameter}
 use Rattle.component_catalog.specs.declared.method.Parameter.TheVariants as parameter
 use Rattle.component_catalog.specs.declared.method.Parameter.TheVariants as parameter
 use Rattle.component_catalog.specs.declared.method.Parameter.TheVariants as parameter
-use Rattle.flex_world.specs.Classes.{Class, StaticType, base_in, descends, lineage_in, same_class, same_native, static_type, upward_in}
+use Rattle.flex_world.specs.Classes.{base_in, descends, lineage_in, same_class, same_native, static_type, upward_in}
+use Rattle.flex_world.specs.declared.kind.Class.{Class}
+use Rattle.flex_world.specs.declared.kind.StaticType.{StaticType}
 use Rattle.flex_world.specs.Conversions.{accepts}
 use Rattle.flex_world.specs.Objects.{Field, field_named}
 use Rattle.flex_program.specs.Classes.{Callee, bases, callee_in, fields_of, own_callee, own_fields, own_members, callee}

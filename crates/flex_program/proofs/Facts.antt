@@ -10,7 +10,9 @@ use Rattle.component_catalog.specs.declared.class.NativeClass.{NativeClass}
 use Rattle.component_catalog.specs.declared.class.NativeClass.TheVariants as native
 use Rattle.component_catalog.specs.declared.method.NativeMethod.{NativeMethod}
 use Rattle.component_catalog.specs.declared.method.NativeMethod.TheVariants as catalog
-use Rattle.flex_world.specs.Classes.{Class, StaticType, base_in, descends, descends_from, is_component, is_container, lineage_in, same_class, static_type, upward_in}
+use Rattle.flex_world.specs.Classes.{base_in, descends, descends_from, is_component, is_container, lineage_in, same_class, static_type, upward_in}
+use Rattle.flex_world.specs.declared.kind.Class.{Class}
+use Rattle.flex_world.specs.declared.kind.StaticType.{StaticType}
 use Rattle.flex_world.specs.Objects.{Field, can_be_written, current_state, field_named}
 use Rattle.flex_program.proofs.ClassLaws.{IsShort, Named, any_first, both_true, callee_of_descendant, descends_then, field_below, fine_members, fine_names, fine_ring, held, is_short, lineage_is, member_of, more_fuel, natives_differ, or_true, same_class_is, same_class_itself, same_text, some_callee}
 use Rattle.flex_program.proofs.Inverted.{is_some_of, map_is, not_both_ways, not_is, then_is}

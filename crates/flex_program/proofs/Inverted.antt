@@ -2,7 +2,8 @@
 use Rattle.std.proofs.Common.{List, [], ap, not, refl, subst, suc, sym, true≢false, zero, ℕ, ◌&&◌, ◌++◌, ◌∙◌, ◌∷◌, ◌≡◌}
 use Rattle.std.specs.List.{filter, find, list_all}
 use Rattle.std.specs.Prelude.{Bool, None, Option, Some, false, if◌then◌else◌, is_some, option_and_then, option_map, slice_get, true, unwrap_or}
-use Rattle.flex_world.specs.Classes.{Class, StaticType}
+use Rattle.flex_world.specs.declared.kind.Class.{Class}
+use Rattle.flex_world.specs.declared.kind.StaticType.{StaticType}
 use Rattle.flex_program.specs.Fine.{class_of_type, for_class, when}
 
 pub same_some : {A : Type 0} (a b : A) → Some a ≡ Some b → a ≡ b

@@ -3,7 +3,7 @@ use Rattle.std.proofs.Common.{ap, refl, sym, ◌∙◌}
 use Rattle.std.specs.Global.{Vec}
 use Rattle.std.specs.List.{fold}
 use Rattle.std.specs.Prelude.{option_map, ◌≡◌}
-use Rattle.flex_program.specs.CodeTerms.{block_in, block_of, class_of, expr_of, exprs_in, exprs_of, operator_of, start_of, step_from, steps_from, stmt_of, type_of}
+use Rattle.flex_program.specs.CodeTerms.{block_in, block_of, expr_of, exprs_in, exprs_of, start_of, step_from, steps_from, stmt_of}
 use Rattle.flex_program.specs.DocumentTerms.{content_before, contents_in, contents_of, given_of, givens_in, givens_of, instance_of, part_of}
 use Rattle.flex_program.specs.Forms.{ContentForms, GivenForms, StartForms, StepForms, StmtForms}
 use Rattle.flex_program.specs.Program.{Block, Contents, Expr, Exprs, Given, Givens, Instance, Stmt}
@@ -67,8 +67,8 @@ pub start_forms : StartForms
 start_forms =
     record {
       array = λ items. ap Expr.Items (exprs_held items);
-      call_super = λ base name arguments. ap (Expr.Call_super (class_of base) name) (exprs_held arguments);
-      new = λ class arguments. ap (Expr.New (class_of class)) (exprs_held arguments);
+      call_super = λ base name arguments. ap (Expr.Call_super base name) (exprs_held arguments);
+      new = λ class arguments. ap (Expr.New class) (exprs_held arguments);
     }
 
 pub step_forms : (e : Expr) → StepForms e
@@ -77,10 +77,10 @@ step_forms e =
       element = λ index. ap (Expr.Element e) (expr_held index);
       call = λ name arguments. ap (Expr.Call e name) (exprs_held arguments);
       push = λ value. ap (Expr.Push e) (expr_held value);
-      apply = λ operator right. ap (Expr.Apply (operator_of operator) e) (expr_held right);
+      apply = λ operator right. ap (Expr.Apply operator e) (expr_held right);
       and = λ right. ap (Expr.And e) (expr_held right);
       or = λ right. ap (Expr.Or e) (expr_held right);
-      choose = λ a b type. λ i. Expr.Choose e (expr_held a i) (expr_held b i) (type_of type);
+      choose = λ a b type. λ i. Expr.Choose e (expr_held a i) (expr_held b i) type;
     }
 
 pub stmt_forms : StmtForms

@@ -5,7 +5,8 @@ use Rattle.std.specs.Str.{bytes_eq}
 use Rattle.component_catalog.specs.Classes.{name_of, or_else}
 use Rattle.component_catalog.specs.Methods.{own_method}
 use Rattle.component_catalog.specs.declared.method.NativeMethod.{NativeMethod}
-use Rattle.flex_world.specs.Classes.{Class, lineage_in}
+use Rattle.flex_world.specs.Classes.{lineage_in}
+use Rattle.flex_world.specs.declared.kind.Class.{Class}
 use Rattle.flex_world.specs.Making.{computes, native_fields, start_of_type}
 use Rattle.flex_world.specs.Objects.{An_array, Field, Instance_of, Kind, Object, field_named, object_class}
 use Rattle.flex_program.specs.Program.{Constructor, Document, Member, Program, SourceClass, Variable}

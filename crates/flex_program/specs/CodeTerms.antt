@@ -1,28 +1,13 @@
 -- The terms that declared expressions, statements and methods stand for.
 use Rattle.std.specs.List.{fold}
-use Rattle.std.specs.Prelude.{List, [], map, option_map, ◌∷◌}
-pub use Rattle.flex_world.specs.Kinds.{class_of, type_of}
-use Rattle.flex_world.specs.Operators.{Operator}
+use Rattle.std.specs.Prelude.{List, [], option_map, ◌∷◌}
 use Rattle.flex_program.specs.declared.code as code
 use Rattle.flex_program.specs.declared.code.Literal.TheVariants as literal
 use Rattle.flex_program.specs.declared.code.Place.TheVariants as place
 use Rattle.flex_program.specs.declared.code.Start.TheVariants as start
 use Rattle.flex_program.specs.declared.code.Step.TheVariants as step
 use Rattle.flex_program.specs.declared.code.Stmt.TheVariants as stmt
-use Rattle.flex_program.specs.declared.operator as operators
-use Rattle.flex_program.specs.declared.operator.Operator.TheVariants as operator
 use Rattle.flex_program.specs.Program.{Block, Expr, Exprs, Literal, Method, Place, Stmt}
-
-abbrev pub operator_of : operators.Operator.Operator → Operator
-operator_of operator.Plus = Operator.Plus
-operator_of operator.Minus = Operator.Minus
-operator_of operator.Times = Operator.Times
-operator_of operator.Modulo = Operator.Modulo
-operator_of operator.Less = Operator.Less
-operator_of operator.LessOrEqual = Operator.LessOrEqual
-operator_of operator.Greater = Operator.Greater
-operator_of operator.Equal = Operator.Equal
-operator_of operator.Same = Operator.Same
 
 abbrev pub literal_of : code.Literal.Literal → Literal
 literal_of literal.Null = Literal.Null
@@ -37,8 +22,8 @@ abbrev mutual
   start_of start.This = Expr.This
   start_of (start.Local number) = Expr.Local number
   start_of (start.Array' shape items) = Expr.Items (exprs_in items)
-  start_of (start.CallSuper' base name shape arguments) = Expr.Call_super (class_of base) name (exprs_in arguments)
-  start_of (start.New' class shape arguments) = Expr.New (class_of class) (exprs_in arguments)
+  start_of (start.CallSuper' base name shape arguments) = Expr.Call_super base name (exprs_in arguments)
+  start_of (start.New' class shape arguments) = Expr.New class (exprs_in arguments)
 
   -- the expression that a step makes of the one so far
   pub step_from : Expr → code.Step.Step → Expr
@@ -49,14 +34,14 @@ abbrev mutual
   step_from e (step.Call' name shape arguments) = Expr.Call e name (exprs_in arguments)
   step_from e (step.Push' b shape steps) = Expr.Push e (steps_from (start_of b) steps)
   step_from e step.Pop = Expr.Pop e
-  step_from e (step.Convert type) = Expr.Convert (type_of type) e
+  step_from e (step.Convert type) = Expr.Convert type e
   step_from e step.ToText = Expr.To_text e
   step_from e step.Negate = Expr.Negate e
   step_from e step.Not = Expr.Not e
-  step_from e (step.Apply' operator b shape steps) = Expr.Apply (operator_of operator) e (steps_from (start_of b) steps)
+  step_from e (step.Apply' operator b shape steps) = Expr.Apply operator e (steps_from (start_of b) steps)
   step_from e (step.And' b shape steps) = Expr.And e (steps_from (start_of b) steps)
   step_from e (step.Or' b shape steps) = Expr.Or e (steps_from (start_of b) steps)
-  step_from e (step.Choose' b shape steps c other others type) = Expr.Choose e (steps_from (start_of b) steps) (steps_from (start_of c) others) (type_of type)
+  step_from e (step.Choose' b shape steps c other others type) = Expr.Choose e (steps_from (start_of b) steps) (steps_from (start_of c) others) type
 
   pub steps_from : {n : _} → Expr → code.Step.Row_of-Step n → Expr
   steps_from e code.Step.end_of-Step = e
@@ -74,7 +59,7 @@ exprs_of [] = Exprs.NoExpr
 exprs_of (e ∷ es) = Exprs.MoreExpr (expr_of e) (exprs_of es)
 
 abbrev pub place_of : code.Place.Place → Place
-place_of (place.Local number type) = Place.Local_place number (type_of type)
+place_of (place.Local number type) = Place.Local_place number type
 place_of (place.Property object name) = Place.Property_place (expr_of object) name
 place_of (place.Element array index) = Place.Element_place (expr_of array) (expr_of index)
 
@@ -83,14 +68,14 @@ abbrev mutual
   stmt_of (stmt.Do e) = Stmt.Do (expr_of e)
   stmt_of (stmt.Trace arguments) = Stmt.Trace (exprs_of arguments.items)
   stmt_of (stmt.Assign place e) = Stmt.Assign (place_of place) (expr_of e)
-  stmt_of (stmt.Update place operator e) = Stmt.Update (place_of place) (operator_of operator) (expr_of e)
+  stmt_of (stmt.Update place operator e) = Stmt.Update (place_of place) operator (expr_of e)
   stmt_of (stmt.If' test shape block other blocks) = Stmt.If (expr_of test) (block_in block) (block_in blocks)
   stmt_of (stmt.Loop' test shape step other body) = Stmt.Loop (option_map expr_of test) (block_in step) (block_in body)
   stmt_of (stmt.DoWhile' shape body test) = Stmt.Do_while (block_in body) (expr_of test)
   stmt_of stmt.Break = Stmt.Break
   stmt_of stmt.Continue = Stmt.Continue
   stmt_of (stmt.Return e) = Stmt.Return (option_map expr_of e)
-  stmt_of (stmt.Super base arguments) = Stmt.Super (option_map class_of base) (exprs_of arguments.items)
+  stmt_of (stmt.Super base arguments) = Stmt.Super base (exprs_of arguments.items)
 
   pub block_in : {n : _} → code.Stmt.Row_of-Stmt n → Block
   block_in code.Stmt.end_of-Stmt = Block.NoStmt
@@ -103,8 +88,8 @@ block_of (s ∷ block) = Block.MoreStmt (stmt_of s) (block_of block)
 abbrev pub method_of : code.Method.Method → Method
 method_of m =
     record {
-      parameters = map type_of m.parameters.items;
-      locals = map type_of m.locals.items;
-      result = option_map type_of m.result;
+      parameters = m.parameters.items;
+      locals = m.locals.items;
+      result = m.result;
       body = block_of m.body.items;
     }

@@ -7,7 +7,7 @@ use Rattle.flex_program.specs.declared.document.Change.TheVariants as change
 use Rattle.flex_program.specs.declared.document.Content.TheVariants as content
 use Rattle.flex_program.specs.declared.document.Destination.TheVariants as destination
 use Rattle.flex_program.specs.declared.document.Given.TheVariants as given
-use Rattle.flex_program.specs.CodeTerms.{class_of, expr_of, literal_of}
+use Rattle.flex_program.specs.CodeTerms.{expr_of, literal_of}
 use Rattle.flex_program.specs.Program.{Attribute, Binding, BindingSource, Chain, Change, Contents, Destination, Document, Given, Givens, Instance, Override, Part, Presence, State}
 
 abbrev pub attribute_of : document.Attribute.Attribute → Attribute
@@ -21,7 +21,7 @@ abbrev pub part_of : document.Part.Part → Part
 part_of p =
     record {
       number = p.number;
-      class = class_of p.class;
+      class = p.class;
       id = p.id;
       presence = option_map presence_of p.presence;
       attributes = map attribute_of p.attributes.items;

@@ -8,10 +8,12 @@ use Rattle.component_catalog.specs.Methods.{element, parameters_of, result_of}
 use Rattle.component_catalog.specs.declared.method.NativeMethod.TheVariants as catalog
 use Rattle.component_catalog.specs.declared.method.Parameter.{Parameter}
 use Rattle.component_catalog.specs.declared.method.Parameter.TheVariants.{Required}
-use Rattle.flex_world.specs.Classes.{Class, StaticType, base_in, descends, is_component, is_container, same_class, static_type, upward_in}
+use Rattle.flex_world.specs.Classes.{base_in, descends, is_component, is_container, same_class, static_type, upward_in}
+use Rattle.flex_world.specs.declared.kind.Class.{Class}
+use Rattle.flex_world.specs.declared.kind.StaticType.{StaticType}
 use Rattle.flex_world.specs.Conversions.{accepts, constructor_parameters}
 use Rattle.flex_world.specs.Objects.{can_be_written, field_named}
-use Rattle.flex_world.specs.Operators.{Operator}
+use Rattle.flex_world.specs.declared.operator.Operator.{Operator}
 use Rattle.flex_program.specs.Classes.{Callee, bases, callee, class_name, constructor_of, document_of, fields_of}
 use Rattle.flex_program.specs.Instances.{part_of, parts_of}
 use Rattle.flex_program.specs.Program.{Attribute, Binding, BindingSource, Block, Change, Constructor, Contents, Destination, Document, Expr, Exprs, Given, Givens, Instance, Literal, Member, Method, MoreExpr, MoreStmt, NoExpr, NoStmt, Override, Part, Place, Presence, Program, SourceClass, State, Stmt, Variable}

@@ -1,7 +1,7 @@
 -- What the declared forms with lists or further forms in them stand for.
 use Rattle.std.specs.Global.{Vec}
 use Rattle.std.specs.Prelude.{Option, option_map, ◌≡◌}
-use Rattle.flex_program.specs.CodeTerms.{block_of, class_of, expr_of, exprs_of, operator_of, start_of, step_from, stmt_of, type_of}
+use Rattle.flex_program.specs.CodeTerms.{block_of, expr_of, exprs_of, start_of, step_from, stmt_of}
 use Rattle.flex_program.specs.DocumentTerms.{content_before, given_of, givens_of, instance_of}
 use Rattle.flex_program.specs.Program.{Contents, Expr, Given, Stmt, Text}
 use Rattle.flex_program.specs.declared.code as code
@@ -11,26 +11,27 @@ use Rattle.flex_program.specs.declared.code.Stmt.TheVariants as stmt
 use Rattle.flex_program.specs.declared.document as document
 use Rattle.flex_program.specs.declared.document.Content.TheVariants as content
 use Rattle.flex_program.specs.declared.document.Given.TheVariants as given
-use Rattle.flex_program.specs.declared.operator as operators
-use Rattle.flex_world.specs.declared.kind as types
+use Rattle.flex_world.specs.declared.kind.Class.{Class}
+use Rattle.flex_world.specs.declared.kind.StaticType.{StaticType}
+use Rattle.flex_world.specs.declared.operator.Operator.{Operator}
 
 -- what an expression begins with
 pub record StartForms : Type 0 where
   pub array : (items : Vec code.Expr.Expr) → start_of (start.Array items) ≡ Expr.Items (exprs_of items.items)
   pub call_super :
-      (base : types.Class.Class) (name : Text) (arguments : Vec code.Expr.Expr)
-      → start_of (start.CallSuper base name arguments) ≡ Expr.Call_super (class_of base) name (exprs_of arguments.items)
-  pub new : (class : types.Class.Class) (arguments : Vec code.Expr.Expr) → start_of (start.New class arguments) ≡ Expr.New (class_of class) (exprs_of arguments.items)
+      (base : Class) (name : Text) (arguments : Vec code.Expr.Expr)
+      → start_of (start.CallSuper base name arguments) ≡ Expr.Call_super base name (exprs_of arguments.items)
+  pub new : (class : Class) (arguments : Vec code.Expr.Expr) → start_of (start.New class arguments) ≡ Expr.New class (exprs_of arguments.items)
 
 -- the steps from there
 pub record StepForms (e : Expr) : Type 0 where
   pub element : (index : code.Expr.Expr) → step_from e (step.Element index) ≡ Expr.Element e (expr_of index)
   pub call : (name : Text) (arguments : Vec code.Expr.Expr) → step_from e (step.Call name arguments) ≡ Expr.Call e name (exprs_of arguments.items)
   pub push : (value : code.Expr.Expr) → step_from e (step.Push value) ≡ Expr.Push e (expr_of value)
-  pub apply : (operator : operators.Operator.Operator) (right : code.Expr.Expr) → step_from e (step.Apply operator right) ≡ Expr.Apply (operator_of operator) e (expr_of right)
+  pub apply : (operator : Operator) (right : code.Expr.Expr) → step_from e (step.Apply operator right) ≡ Expr.Apply operator e (expr_of right)
   pub and : (right : code.Expr.Expr) → step_from e (step.And right) ≡ Expr.And e (expr_of right)
   pub or : (right : code.Expr.Expr) → step_from e (step.Or right) ≡ Expr.Or e (expr_of right)
-  pub choose : (a b : code.Expr.Expr) (type : types.StaticType.StaticType) → step_from e (step.Choose a b type) ≡ Expr.Choose e (expr_of a) (expr_of b) (type_of type)
+  pub choose : (a b : code.Expr.Expr) (type : StaticType) → step_from e (step.Choose a b type) ≡ Expr.Choose e (expr_of a) (expr_of b) type
 
 pub record StmtForms : Type 0 where
   pub branch :

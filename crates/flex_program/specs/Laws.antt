@@ -1,6 +1,7 @@
 -- What holds of the classes of a fine program.
 use Rattle.std.specs.Prelude.{List, Some, true, ℕ, ◌≡◌}
-use Rattle.flex_world.specs.Classes.{Class, descends}
+use Rattle.flex_world.specs.Classes.{descends}
+use Rattle.flex_world.specs.declared.kind.Class.{Class}
 use Rattle.flex_world.specs.Objects.{Field, field_named}
 use Rattle.flex_program.specs.Classes.{Callee, bases, callee, fields_of}
 use Rattle.flex_program.specs.Fine.{callee_accepts, callee_gives, callee_types, is_fine}

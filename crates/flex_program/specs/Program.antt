@@ -1,7 +1,8 @@
 -- Checked programs: names are resolved, types written, chains and the lists of states made.
 use Rattle.std.specs.Prelude.{Bool, List, Option, ℕ, ℤ}
-use Rattle.flex_world.specs.Classes.{Class, StaticType}
-use Rattle.flex_world.specs.Operators.{Operator}
+use Rattle.flex_world.specs.declared.kind.Class.{Class}
+use Rattle.flex_world.specs.declared.kind.StaticType.{StaticType}
+use Rattle.flex_world.specs.declared.operator.Operator.{Operator}
 
 -- a text or a name, by its bytes in UTF-8
 abbrev pub Text : Type 0

@@ -2,7 +2,7 @@
 use Rattle.std.specs.Prelude.{Option, map, option_map, ◌≡◌}
 use Rattle.flex_program.specs.declared.document as declared
 use Rattle.flex_program.specs.declared.program as program
-use Rattle.flex_program.specs.CodeTerms.{class_of, expr_of, method_of, type_of}
+use Rattle.flex_program.specs.CodeTerms.{expr_of, method_of}
 use Rattle.flex_program.specs.DocumentTerms.{document_of}
 use Rattle.flex_program.specs.Program.{Constructor, Member, Program, SourceClass, Variable}
 
@@ -10,7 +10,7 @@ abbrev pub variable_of : program.Variable.Variable → Variable
 variable_of v =
     record {
       name = v.name;
-      type = type_of v.kind;
+      type = v.kind;
       start = option_map expr_of v.start;
       public = v.public;
       bindable = v.bindable;
@@ -26,7 +26,7 @@ abbrev pub source_class_of : program.SourceClass.SourceClass → SourceClass
 source_class_of c =
     record {
       name = c.name;
-      base = option_map class_of c.base;
+      base = c.base;
       variables = map variable_of c.variables.items;
       members = map member_of c.members.items;
       constructor = option_map constructor_of c.constructor;

@@ -2,11 +2,10 @@
 
 ghost use Rattle.std.specs.List.{fold};
 ghost use Rattle.std.specs.Prelude.{◌≡◌, map, option_map};
-ghost use Rattle.flex_program.specs.CodeTerms.{block_of, expr_of, method_of, start_of, step_from, type_of};
+ghost use Rattle.flex_program.specs.CodeTerms.{block_of, expr_of, method_of, start_of, step_from};
 
-use crate::operator::Operator;
 use flex_base::Text;
-use flex_world::{Class, StaticType};
+use flex_world::{Class, Operator, StaticType};
 
 /// A value that is written in a source.
 #[derive(Drop)]
@@ -161,21 +160,21 @@ pub struct Method {
 impl Method {
     /// The types of the parameters.
     pub fn parameters(&self) -> &[StaticType]
-        ensures { map type_of result.now ≡ (method_of self.now).parameters }
+        ensures { result.now ≡ (method_of self.now).parameters }
     {
         &self.parameters
     }
 
     /// The types of the variables that the body declares, which are numbered behind the parameters.
     pub fn locals(&self) -> &[StaticType]
-        ensures { map type_of result.now ≡ (method_of self.now).locals }
+        ensures { result.now ≡ (method_of self.now).locals }
     {
         &self.locals
     }
 
     /// The type of the value, or none of a method that gives no value.
     pub fn result(&self) -> Option<StaticType>
-        ensures { option_map type_of result ≡ (method_of self.now).result }
+        ensures { result ≡ (method_of self.now).result }
     {
         self.result
     }

@@ -10,7 +10,6 @@
 mod code;
 mod document;
 mod laws;
-mod operator;
 mod program;
 #[cfg(test)]
 mod tests;
@@ -20,7 +19,6 @@ pub use document::{
     Attribute, Binding, BindingSource, Change, Content, Destination, Document, Given, Instance,
     Override, Part, Presence, State, WatchedChain,
 };
-pub use flex_world::{Class, StaticType};
+pub use flex_world::{Class, Operator, StaticType};
 pub use laws::{laws_of_classes, laws_of_terms};
-pub use operator::Operator;
 pub use program::{Constructor, Member, Program, SourceClass, Variable};

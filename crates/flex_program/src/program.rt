@@ -2,7 +2,7 @@
 
 ghost use Rattle.std.specs.Option.{option_copied};
 ghost use Rattle.std.specs.Prelude.{◌≡◌, map, option_map};
-ghost use Rattle.flex_program.specs.CodeTerms.{class_of, method_of};
+ghost use Rattle.flex_program.specs.CodeTerms.{method_of};
 ghost use Rattle.flex_program.specs.ProgramTerms.{HasDocument, constructor_of, member_of, program_of, source_class_of, variable_of};
 
 use crate::code::{Expr, Method};
@@ -60,7 +60,7 @@ impl SourceClass {
 
     /// The class that it extends, if there is one.
     pub fn base(&self) -> Option<Class>
-        ensures { option_map class_of result ≡ (source_class_of self.now).base }
+        ensures { result ≡ (source_class_of self.now).base }
     {
         self.base
     }

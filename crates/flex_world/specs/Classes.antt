@@ -7,23 +7,8 @@ use Rattle.component_catalog.specs.declared.class.NativeClass.{NativeClass}
 use Rattle.component_catalog.specs.declared.class.NativeClass.TheVariants as native
 use Rattle.component_catalog.specs.declared.value.ValueType.{ValueType}
 use Rattle.component_catalog.specs.declared.value.ValueType.TheVariants as kind
-
--- a class of the catalog, or one of the file or the sources that are played, by its number among these
-pub data Class : Type 0 where
-  Native : (class : NativeClass) → Class
-  File : (number : ℕ) → Class
-
--- the type of a variable, a property, a parameter or a result
-pub data StaticType : Type 0 where
-  Int : StaticType
-  Boolean : StaticType
-  String : StaticType
-  Array : StaticType
-  Object : (class : Class) → StaticType
-  -- no type, or `*`
-  Any : StaticType
-  -- a name that names no class; no source has it
-  Unnamed : StaticType
+use Rattle.flex_world.specs.declared.kind.Class.{Class}
+use Rattle.flex_world.specs.declared.kind.StaticType.{StaticType}
 
 -- a type of the catalog
 abbrev pub static_type : ValueType → StaticType

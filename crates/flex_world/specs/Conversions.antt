@@ -12,7 +12,9 @@ use Rattle.component_catalog.specs.declared.class.NativeClass.TheVariants as nat
 use Rattle.component_catalog.specs.declared.method.Parameter.{Parameter}
 use Rattle.component_catalog.specs.declared.method.Parameter.TheVariants.{Required, Optional, Listener}
 use Rattle.component_catalog.specs.declared.value.ValueType.TheVariants as kind
-use Rattle.flex_world.specs.Classes.{Class, StaticType, descends, native_descends}
+use Rattle.flex_world.specs.Classes.{descends, native_descends}
+use Rattle.flex_world.specs.declared.kind.Class.{Class}
+use Rattle.flex_world.specs.declared.kind.StaticType.{StaticType}
 use Rattle.flex_world.specs.Making.{start_of_type, start_value}
 use Rattle.flex_world.specs.Objects.{An_array, Instance_of, Kind, Object, object_at}
 use Rattle.flex_world.specs.Operators.{whole}

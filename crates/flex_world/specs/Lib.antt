@@ -1,5 +1,4 @@
 pub mod Classes
-pub mod Kinds
 pub mod Objects
 pub mod Making
 pub mod Events

@@ -8,7 +8,9 @@ use Rattle.component_catalog.specs.Properties.{Property, own_property, propertie
 use Rattle.component_catalog.specs.declared.class.NativeClass.{NativeClass}
 use Rattle.component_catalog.specs.declared.value.StartValue.{StartValue}
 use Rattle.component_catalog.specs.declared.value.StartValue.TheVariants as start
-use Rattle.flex_world.specs.Classes.{Class, StaticType, static_type}
+use Rattle.flex_world.specs.Classes.{static_type}
+use Rattle.flex_world.specs.declared.kind.Class.{Class}
+use Rattle.flex_world.specs.declared.kind.StaticType.{StaticType}
 use Rattle.flex_world.specs.Objects.{Delivery, Field, Keeping, Kind, Object}
 
 -- what a variable of a type holds at first

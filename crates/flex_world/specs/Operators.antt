@@ -6,6 +6,7 @@ use Rattle.flex_base.specs.declared.outcome.Stop.{Stop}
 use Rattle.flex_base.specs.declared.outcome.Stop.TheVariants as stop
 use Rattle.flex_base.specs.declared.value.Value.{Value}
 use Rattle.flex_base.specs.declared.value.Value.TheVariants as value
+use Rattle.flex_world.specs.declared.operator.Operator.{Operator}
 
 -- a whole number as a value
 abbrev pub whole : Result ℤ Stop → Result Value Stop
@@ -31,17 +32,6 @@ abbrev pub less_or_equal : Value → Value → Result Value Stop
 less_or_equal a b = untruth (less b a)
 
 -- the operators on two values
-pub data Operator : Type 0 where
-  Plus : Operator
-  Minus : Operator
-  Times : Operator
-  Modulo : Operator
-  Less : Operator
-  LessOrEqual : Operator
-  Greater : Operator
-  Equal : Operator
-  Same : Operator
-
 abbrev pub operate : Operator → Value → Value → Result Value Stop
 operate Operator.Plus a b = add a b
 operate Operator.Minus a b = on_ints subtract a b

@@ -1,5 +1,5 @@
 -- The names that the code keeps, list by list.
-use Rattle.std.proofs.Common.{◌≡◌, ◌∙◌, ℕ, List, [], ◌∷◌, ◌++◌, map, refl, ap, sym, append_assoc}
+use Rattle.std.proofs.Common.{◌≡◌, ℕ, List, [], ◌∷◌, ◌++◌, map, refl, ap}
 use Rattle.as3_parser.specs.declared.tree.Modifier.{Modifier}
 use Rattle.as3_parser.specs.declared.tree.Variable.{Variable}
 use Rattle.source_sites.specs.Trees.{variable_of}

@@ -3,3 +3,7 @@ pub mod Declared
 pub mod Before
 pub mod SameTypes
 pub mod BodyLocals
+pub mod Spelled
+pub mod Pieces
+pub mod Events
+pub mod OneRules

@@ -1,6 +1,5 @@
 -- Lists of types that are the same.
-use Rattle.std.proofs.Common.{◌≡◌, ◌∙◌, List, [], ◌∷◌, map, ap, sym, refl, Bool, true, false, ◌&&◌}
-use Rattle.source_sites.specs.Types as sites
+use Rattle.std.proofs.Common.{◌≡◌, ◌∙◌, List, [], ◌∷◌, map, ap, sym, Bool, true, false, ◌&&◌}
 use Rattle.class_sites.specs.MemberSites.{same_type, same_types}
 use Rattle.as3_types.specs.declared.types.ValueType.{ValueType}
 use Rattle.as3_types.specs.Types.{type_of}

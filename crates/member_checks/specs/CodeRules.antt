@@ -1,6 +1,6 @@
 -- The rules of the members of a class file.
 use Rattle.std.specs.Prelude.{◌≡◌, ℕ, List, [], ◌∷◌, ◌++◌, map, length, Bool, not, ◌&&◌, ◌==◌, bytes_eq, Option, None, option_and_then, if◌then◌else◌}
-use Rattle.std.specs.List.{list_any}
+use Rattle.std.specs.List.{flat_map, list_any}
 use Rattle.member_checks.specs.declared.names.NamedPlace.{NamedPlace}
 use Rattle.as3_parser.specs.declared.tree.Lexeme.{Lexeme}
 use Rattle.as3_parser.specs.declared.tree.Modifier.{Modifier}
@@ -9,13 +9,16 @@ use Rattle.source_sites.specs.declared.site.Site.{Site}
 use Rattle.source_sites.specs.Sites.{Rule, first_site, rule}
 use Rattle.as3_parser.specs.declared.tree.Member as m
 use Rattle.as3_parser.specs.declared.tree.Parameter as p
+use Rattle.as3_parser.specs.declared.tree.Variable as v
+use Rattle.as3_types.specs.Types.{function_of}
 use Rattle.as3_parser.specs.declared.tree.ResultType as r
 use Rattle.as3_parser.specs.declared.tree.Statement.{Statement}
 use Rattle.source_sites.specs.Sources.{Reading, Readers}
 use Rattle.source_sites.specs.Syntax.{ClassFile, Declares, Function, Member, MetadataTag, ResultType, TypedName}
-use Rattle.source_sites.specs.Trees.{declares_of, locals_of_body, member_of, parameter_of, result_of}
+use Rattle.source_sites.specs.Trees.{declares_of, locals_of_body, member_of, parameter_of, result_of, variable_of}
 use Rattle.source_sites.specs.Types.{ValueType}
-use Rattle.flex_world.specs.Classes.{Class, base_in}
+use Rattle.flex_world.specs.Classes.{base_in}
+use Rattle.flex_world.specs.declared.kind.Class.TheVariants as Class
 use Rattle.source_sites.specs.Texts.{Text}
 use Rattle.source_sites.specs.Members.{Found}
 use Rattle.source_sites.specs.LookUps as look_ups
@@ -41,6 +44,9 @@ module _ (s : ClassScope) where
 
   abbrev pub metadata_rule : MetadataTag → Rule
   metadata_rule m = sites.bad_metadata class_readers (table_of s.table.now) s.file s.here.now declared_in m
+
+  abbrev pub right_arguments : MetadataTag → Bool
+  right_arguments m = sites.has_right_arguments class_readers (table_of s.table.now) s.file s.here.now declared_in m
 
   abbrev pub type_rule : List Lexeme → Rule
   type_rule path = sites.unknown_type class_readers (table_of s.table.now) s.file s.here.now declared_in path
@@ -68,6 +74,16 @@ module _ (s : ClassScope) where
 
   abbrev pub member_rules : Member → List Rule
   member_rules m = sites.member_sites class_readers (table_of s.table.now) s.file s.here.now declared_in 0 m
+
+  abbrev pub members_rules : List m.Member → List Rule
+  members_rules members = flat_map member_rules (map member_of members)
+
+  abbrev pub members_and_words : ClassFile → List Rule
+  members_and_words file = flat_map member_rules file.members ++ (sites.wrong_class_modifiers file ∷ [])
+
+  -- those of the class behind its imports: of its metadata, its members and its words
+  abbrev pub behind_imports : ClassFile → List Rule
+  behind_imports file = map metadata_rule file.metadata ++ members_and_words file
 
   abbrev pub class_rules : ClassFile → List Rule
   class_rules file = sites.class_file_member_sites class_readers (table_of s.table.now) s.file s.here.now declared_in file
@@ -106,3 +122,19 @@ body_rules s given body = result_rules s (result_of given) ++ local_rules s (loc
 
 abbrev pub named_type_rules : ClassScope → List p.Parameter → Option r.ResultType → List Statement → List Rule
 named_type_rules s parameters given body = parameter_rules s 0 (map parameter_of parameters) ++ body_rules s given body
+
+-- what a member declares, and then its words
+abbrev pub code_and_words : ClassScope → m.Member → List Rule
+code_and_words s member = code_rules s member ++ (sites.wrong_modifiers (member_of member) ∷ [])
+
+abbrev pub rules_of_parameters : ClassScope → List p.Parameter → List Rule
+rules_of_parameters s parameters = parameter_rules s 0 (map parameter_of parameters)
+
+-- the first broken rule of the name of a variable, whatever its words are
+abbrev pub FindsOfVariableName : ClassScope → v.Variable → Option Site → Type 0
+FindsOfVariableName s variable site = (modifiers : List Modifier) → Finds s (name_rules s (sites.name_of_variable 0 modifiers (variable_of variable))) site
+
+-- and of that of a function, whatever its local variables are
+abbrev pub FindsOfFunctionName : ClassScope → List Modifier → Lexeme → List p.Parameter → Option r.ResultType → Option Site → Type 0
+FindsOfFunctionName s modifiers name parameters given site =
+    (locals : List TypedName) → Finds s (name_rules s (sites.name_of_function 0 modifiers (function_of name parameters given locals))) site

@@ -4,7 +4,7 @@ ghost use Rattle.std.specs.Prelude.{◌≡◌, [], ◌∷◌, IfOk, map};
 ghost use Rattle.source_sites.specs.Sites.{first_site};
 ghost use Rattle.source_sites.specs.Trees.{parameter_of, result_of, variable_of};
 ghost use Rattle.class_sites.specs.MemberSites.{too_many_parameters};
-ghost use Rattle.member_checks.specs.CodeRules.{Finds, local_rules, parameter_rules, result_rules, type_rule};
+ghost use Rattle.member_checks.specs.CodeRules.{Finds, local_rules, rules_of_parameters, result_rules, type_rule};
 
 use crate::rules::unknown_type;
 use crate::scope::ClassScope;
@@ -23,7 +23,7 @@ pub fn check_parameters(
     scope: &ClassScope,
     parameters: &[Parameter],
 ) -> Result<Option<Site>, NoMemory>
-    ensures { IfOk result (Finds scope.now (parameter_rules scope.now 0 (map parameter_of parameters.now))) }
+    ensures { IfOk result (Finds scope.now (rules_of_parameters scope.now parameters.now)) }
 {
     let mut number = 0;
     let mut rest = parameters;

@@ -6,10 +6,11 @@ ghost use Rattle.as3_parser.specs.declared.tree.Modifier.{Modifier};
 ghost use Rattle.source_sites.specs.Trees.{locals_of_body, member_of, variable_of};
 ghost use Rattle.class_sites.specs.MemberSites.{wrong_modifiers};
 ghost use Rattle.as3_types.specs.Types.{function_of};
-ghost use Rattle.member_checks.specs.CodeRules.{Finds, body_rules, code_rules, function_rules, named_type_rules, variable_rules};
+ghost use Rattle.member_checks.specs.CodeRules.{Finds, body_rules, code_and_words, code_rules, function_rules, member_rules, members_rules, named_type_rules, variable_rules};
 
 use crate::functions::{check_parameters, check_result};
 use crate::locals::check_locals;
+use crate::metadata::check_metadata;
 use crate::naming::{check_function_name, check_variable_name};
 use crate::rules::unknown_type;
 use crate::scope::ClassScope;
@@ -21,6 +22,41 @@ use flex_base::NoMemory;
 use source_sites::Site;
 use std::alloc::Global;
 
+/// The first broken rule of members, one behind another.
+pub fn check_members(
+    alloc: Global,
+    scope: &ClassScope,
+    members: &[Member],
+) -> Result<Option<Site>, NoMemory>
+    ensures { IfOk result (Finds scope.now (members_rules scope.now members.now)) }
+{
+    let mut rest = members;
+    while let Some((member, others)) = rest.split_first() {
+        let site = check_member(alloc, scope, member)?;
+        if site.is_some() {
+            return Ok(site);
+        }
+        rest = others;
+    }
+    Ok(None)
+}
+
+/// The first broken rule of a member: its metadata, what it declares, and then its words.
+pub fn check_member(
+    alloc: Global,
+    scope: &ClassScope,
+    member: &Member,
+) -> Result<Option<Site>, NoMemory>
+    ensures { IfOk result (Finds scope.now (member_rules scope.now (member_of member.now))) }
+{
+    let metadata = check_metadata(alloc, scope, member.metadata.as_slice())?;
+    if metadata.is_some() {
+        return Ok(metadata);
+    }
+    let site = check_member_code(alloc, scope, member)?;
+    Ok(site)
+}
+
 /// The first broken rule of a member behind its metadata: what it declares, and then its words.
 #[tactic(auto, using(crate::proofs::Walks::first_fails, crate::proofs::Walks::first_holds))]
 pub fn check_member_code(
@@ -28,7 +64,7 @@ pub fn check_member_code(
     scope: &ClassScope,
     member: &Member,
 ) -> Result<Option<Site>, NoMemory>
-    ensures { IfOk result (Finds scope.now (code_rules scope.now member.now ++ wrong_modifiers (member_of member.now) ∷ [])) }
+    ensures { IfOk result (Finds scope.now (code_and_words scope.now member.now)) }
 {
     let site = check_declared(alloc, scope, member)?;
     if site.is_some() {

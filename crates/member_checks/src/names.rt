@@ -3,7 +3,7 @@
 ghost use Rattle.std.specs.Prelude.{◌≡◌, ◌++◌, ◌∷◌, [], IfOk, OnOk, map};
 ghost use Rattle.source_sites.specs.Trees.{declares_of, member_of};
 ghost use Rattle.class_sites.specs.MemberSites.{names_declared, names_of_members};
-ghost use Rattle.member_checks.specs.Places.{lexeme_place, place_of_name, variable_place};
+ghost use Rattle.member_checks.specs.Places.{lexeme_place, place_of_name, places_in, variable_place};
 
 use as3_parser::{Lexeme, Member, MemberKind, Variable};
 use flex_base::{NoMemory, Sequence, Text};
@@ -26,7 +26,7 @@ pub fn declared_names(
     holder: usize,
     members: &[Member],
 ) -> Result<Sequence<NamedPlace>, NoMemory>
-    ensures { IfOk result (λ names. names ≡ map place_of_name (names_of_members holder (map member_of members.now))) }
+    ensures { IfOk result (λ names. names ≡ places_in holder members.now) }
 {
     let mut names = Sequence::new(alloc);
     let mut rest = members;

@@ -13,15 +13,15 @@ ghost use Rattle.as3_types.specs.Tables.{found_as};
 ghost use Rattle.as3_types.specs.Types.{function_of};
 ghost use Rattle.member_checks.specs.declared.names.NamedPlace.{NamedPlace};
 ghost use Rattle.member_checks.specs.Places.{places_before};
-ghost use Rattle.member_checks.specs.CodeRules.{Finds, above_unless, name_rules, new_rule, override_rule, room_rule, rules_of_name};
+ghost use Rattle.member_checks.specs.CodeRules.{Finds, FindsOfFunctionName, FindsOfVariableName, above_unless, name_rules, new_rule, override_rule, room_rule, rules_of_name};
 
 use crate::names::NamedPlace;
 use crate::overriding::fits_override;
 use crate::scope::ClassScope;
 use as3_parser::{Lexeme, Modifier, Parameter, ResultType, Variable};
-use as3_types::{FoundMember, base_of, is_constructor, member_of, overrides, site_unless};
+use as3_types::{FoundMember, is_constructor, member_of, overrides, site_unless};
 use flex_base::NoMemory;
-use flex_world::Class;
+use flex_world::{Class, base_of};
 use source_sites::{Code, Site};
 use std::alloc::Global;
 
@@ -30,7 +30,7 @@ const MOST_MEMBERS: usize = 1024;
 
 /// The first broken rule of the name of a variable.
 pub fn check_variable_name(scope: &ClassScope, variable: &Variable) -> Option<Site>
-    ensures { (modifiers : List Modifier) → Finds scope.now (name_rules scope.now (name_of_variable 0 modifiers (variable_of variable.now))) result }
+    ensures { FindsOfVariableName scope.now variable.now result }
 {
     let above = inherited(scope, &variable.name, false);
     let free = is_free(false, above);
@@ -46,7 +46,7 @@ pub fn check_function_name(
     parameters: &[Parameter],
     given: &Option<ResultType>,
 ) -> Result<Option<Site>, NoMemory>
-    ensures { IfOk result (λ site. (locals : List TypedName) → Finds scope.now (name_rules scope.now (name_of_function 0 modifiers.now (function_of name.now parameters.now given.now locals))) site) }
+    ensures { IfOk result (FindsOfFunctionName scope.now modifiers.now name.now parameters.now given.now) }
 {
     let constructor = is_constructor(scope.here, name);
     let above = inherited(scope, name, constructor);

@@ -12,11 +12,11 @@ ghost use Rattle.member_checks.specs.Fitting.{fits_owned};
 use crate::scope::ClassScope;
 use as3_parser::{Lexeme, Modifier, Parameter, ResultType};
 use as3_types::{
-    Found, FoundMember, OwnKind, OwnMember, Signature, ValueType, access_of, is_same_class,
-    is_same_modifier, native_signature, signature_of,
+    Found, FoundMember, OwnKind, OwnMember, Signature, ValueType, access_of, is_same_modifier,
+    native_signature, signature_of,
 };
 use flex_base::NoMemory;
-use flex_world::Class;
+use flex_world::{Class, is_same_class};
 use std::alloc::Global;
 
 /// Whether a function overrides a method of a base that isn't private, with the same parameters,

@@ -1,9 +1,7 @@
 // Where the members of a class stand.
 
-ghost use Rattle.std.specs.Prelude.{◌≡◌, map};
-ghost use Rattle.source_sites.specs.Trees.{member_of};
-ghost use Rattle.class_sites.specs.MemberSites.{names_of_members};
-ghost use Rattle.member_checks.specs.Places.{place_of_name};
+ghost use Rattle.std.specs.Prelude.{◌≡◌};
+ghost use Rattle.member_checks.specs.Places.{places_in};
 
 use crate::names::NamedPlace;
 use as3_parser::Member;
@@ -19,5 +17,5 @@ pub struct ClassScope<'a> {
     pub here: &'a NamedClass,
     pub members: &'a [Member],
     pub names: &'a [NamedPlace],
-    pub ghost declared: { names.now ≡ map place_of_name (names_of_members 0 (map member_of members.now)) },
+    pub ghost declared: { names.now ≡ places_in 0 members.now },
 }

@@ -1,13 +1,13 @@
 // Members that are judged where memory is there.
 
-use crate::{ClassScope, check_imports, check_member_code, declared_names};
+use crate::check_class_members;
 use as3_lexer::{LexRefusal, tokens};
 use as3_parser::{ClassFile, ParseRefusal, parse_class_file};
 use as3_types::ClassTable;
 use component_catalog::NativeClass;
 use flex_base::{NoMemory, Sequence, Text};
 use flex_world::Class;
-use source_sites::{Code, NamedClass, Site};
+use source_sites::{Code, NamedClass, ParsedClass, Site};
 use std::alloc::Global;
 use std::test::Fail;
 
@@ -31,32 +31,18 @@ fn table(alloc: Global) -> Result<ClassTable, NoMemory> {
     })
 }
 
-// The first broken rule of the imports and of the members of a class file behind their metadata.
-fn first_fault(alloc: Global, file: &ClassFile) -> Result<Option<Site>, NoMemory> {
-    let site = check_imports(0, file.imports.as_slice());
-    if site.is_some() {
-        return Ok(site);
-    }
+// The first broken rule of the members of a class file whose class begins behind `package{`.
+fn first_fault(alloc: Global, file: ClassFile) -> Result<Option<Site>, NoMemory> {
     let table = table(alloc)?;
     let Some(here) = table.classes.get(0) else {
         return Ok(None);
     };
-    let members = file.class.members.as_slice();
-    let names = declared_names(alloc, 0, members)?;
-    let scope = ClassScope {
-        table: &table,
-        file: 0,
-        here,
-        members,
-        names: names.as_slice(),
+    let parsed = ParsedClass {
+        package_at: 0,
+        class_at: 8,
+        file,
     };
-    for member in members {
-        let site = check_member_code(alloc, &scope, member)?;
-        if site.is_some() {
-            return Ok(site);
-        }
-    }
-    Ok(None)
+    check_class_members(alloc, &table, 0, here, &parsed)
 }
 
 // Where a text of a class file is at fault.
@@ -71,7 +57,7 @@ fn fault(alloc: Global, text: &str) -> Result<Option<(usize, Code)>, NoMemory> {
         Err(ParseRefusal::NoMemory) => return Err(NoMemory),
         Err(_) => return Ok(Some((0, Code::Syntax))),
     };
-    match first_fault(alloc, &file)? {
+    match first_fault(alloc, file)? {
         Some(site) => Ok(Some((site.at, site.code))),
         None => Ok(None),
     }
@@ -147,6 +133,36 @@ fn members_are_judged(rt: HostRuntime) -> Result<(), Fail> {
             rt.alloc(),
             "package{import a.*.b;public class B extends UIComponent{}}"
         )?,
+        Some((8, Code::WrongModifiers))
+    );
+    Ok(())
+}
+
+#[test]
+fn metadata_are_judged(rt: HostRuntime) -> Result<(), Fail> {
+    assert_eq!(rt;
+        fault(
+            rt.alloc(),
+            "package{[Event(name='n',type='mx.events.Fle\\x78Event')]public class B{}}"
+        )?,
+        None
+    );
+    assert_eq!(rt;
+        fault(
+            rt.alloc(),
+            "package{[Event(name='n',type='UIComponent')]public class B{}}"
+        )?,
+        Some((8, Code::BadMetadata))
+    );
+    assert_eq!(rt;
+        fault(
+            rt.alloc(),
+            "package{public class B{[Bindable(event='n')]public var n:int;}}"
+        )?,
+        Some((23, Code::BadMetadata))
+    );
+    assert_eq!(rt;
+        fault(rt.alloc(), "package{class B{}}")?,
         Some((8, Code::WrongModifiers))
     );
     Ok(())

@@ -2,7 +2,8 @@
 use Rattle.std.specs.Prelude.{List, [], ◌∷◌, ◌+◌, length, Bool, true, false, Option, Some, None}
 use Rattle.std.specs.List.{list_any}
 use Rattle.as3_parser.specs.declared.tree.Lexeme.{Lexeme}
-use Rattle.flex_world.specs.Classes.{Class, same_class, base_in, upward_in, descends}
+use Rattle.flex_world.specs.Classes.{same_class, base_in, upward_in, descends}
+use Rattle.flex_world.specs.declared.kind.Class.{Class}
 use Rattle.source_sites.specs.Types.{ValueType}
 use Rattle.source_sites.specs.Sources.{Content, SourceFile}
 use Rattle.source_sites.specs.declared.names.NamedClass.{NamedClass}

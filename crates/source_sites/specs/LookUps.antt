@@ -10,7 +10,9 @@ use Rattle.component_catalog.specs.Properties.{properties}
 use Rattle.component_catalog.specs.Events as catalog_events
 use Rattle.component_catalog.specs.Events.{events}
 use Rattle.component_catalog.specs.Methods.{NamedMethod, methods}
-use Rattle.flex_world.specs.Classes.{Class, same_class, lineage_in, descends, descends_from}
+use Rattle.flex_world.specs.Classes.{same_class, lineage_in, descends, descends_from}
+use Rattle.flex_world.specs.declared.kind.Class.{Class}
+use Rattle.flex_world.specs.declared.kind.Class.TheVariants as Class
 use Rattle.source_sites.specs.Texts.{Text}
 use Rattle.source_sites.specs.Types.{native_type, native_signature}
 use Rattle.source_sites.specs.Members.{Property, Kind, Owned, Found, Event, Table, A_property, A_method, nth_list}

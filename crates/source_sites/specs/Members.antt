@@ -9,7 +9,9 @@ use Rattle.as3_parser.specs.declared.tree.Modifier.TheVariants as modifier
 use Rattle.component_catalog.specs.declared.class.TagPlace.{TagPlace}
 use Rattle.component_catalog.specs.declared.class.TagPlace.TheVariants.{Nowhere, Anywhere}
 use Rattle.component_catalog.specs.Classes.{tag_place}
-use Rattle.flex_world.specs.Classes.{Class, is_event}
+use Rattle.flex_world.specs.Classes.{is_event}
+use Rattle.flex_world.specs.declared.kind.Class.{Class}
+use Rattle.flex_world.specs.declared.kind.Class.TheVariants as Class
 use Rattle.source_sites.specs.Texts.{Text, split}
 use Rattle.source_sites.specs.Syntax.{TypedName, ResultType, Function, Declares, MetadataTag, Member}
 use Rattle.source_sites.specs.Literals.{quoted_text}

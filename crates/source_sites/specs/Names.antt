@@ -5,7 +5,8 @@ use Rattle.component_catalog.specs.declared.class.NativeClass.{NativeClass}
 use Rattle.component_catalog.specs.declared.class.NativeClass.TheVariants as native
 use Rattle.component_catalog.specs.Classes as catalog
 use Rattle.component_catalog.specs.Classes.{class_named, spark}
-use Rattle.flex_world.specs.Classes.{Class}
+use Rattle.flex_world.specs.declared.kind.Class.{Class}
+use Rattle.flex_world.specs.declared.kind.Class.TheVariants as Class
 use Rattle.mxml_tree.specs.declared.tree.Element.{Element}
 use Rattle.as3_parser.specs.declared.tree.Lexeme.{Lexeme}
 use Rattle.flex_base.specs.Events.{path_text}

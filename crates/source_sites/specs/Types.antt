@@ -7,7 +7,8 @@ use Rattle.component_catalog.specs.declared.method.Parameter.{Parameter}
 use Rattle.component_catalog.specs.declared.method.Parameter.TheVariants as parameter
 use Rattle.component_catalog.specs.declared.method.NativeMethod.{NativeMethod}
 use Rattle.component_catalog.specs.Methods.{parameters_of, result_of}
-use Rattle.flex_world.specs.Classes.{Class}
+use Rattle.flex_world.specs.declared.kind.Class.{Class}
+use Rattle.flex_world.specs.declared.kind.Class.TheVariants as Class
 
 -- the type of an expression, a variable, a parameter or a result
 pub data ValueType : Type 0 where

@@ -1,6 +1,2 @@
-mod Entries
-mod Forerunners
 mod Keeping
-mod Outward
-mod Places
 mod Watching

@@ -1,60 +1,38 @@
 -- Events and their listeners.
 use Rattle.std.specs.Option.{option_map_or}
-use Rattle.std.specs.Prelude.{Bool, List, Option, codes, false, if◌then◌else◌, option_map, ℕ, ℤ}
+use Rattle.std.specs.Prelude.{Bool, List, Option, false, ℕ, ℤ}
 use Rattle.flex_base.specs.declared.value.ObjId.{ObjId}
-use Rattle.flex_base.specs.declared.value.Value.{Value}
 use Rattle.flex_base.specs.declared.value.Value.TheVariants as value
 use Rattle.event_flow.specs.Hearing.{addition, heard_at, removal, with_listener, without_listener}
 use Rattle.event_flow.specs.declared.listeners.Addition.{Addition}
 use Rattle.event_flow.specs.declared.listeners.Removal.{Removal}
-use Rattle.flex_world.specs.Events.{closed_delivery, is_heard, opened_delivery, prevented_now}
-use Rattle.flex_world.specs.Objects.{Delivery, Object, Registration, count, is_true, property, with_value}
-use Rattle.ui_runtime.specs.Stage.{Stage, change, listeners_at, object_at}
-
-abbrev pub with_property : List ℕ → Value → Object → Object
-with_property key v c = record c { fields = with_value key v c.fields }
-
-abbrev pub with_delivery : (Delivery → Delivery) → Object → Object
-with_delivery f c = record c { delivery = f c.delivery }
+use Rattle.flex_world.specs.Events.{is_heard, prevented_now}
+use Rattle.flex_world.specs.Objects.{Delivery}
+use Rattle.stage_objects.specs.Events.{arrived, closed, delivery_in, dispatched_in, initialised, started_in, with_delivery, with_listeners}
+use Rattle.ui_runtime.specs.Stage.{Stage, change, listeners_at}
 
 -- its type, and whether it bubbles and can be cancelled
-abbrev pub initialised : List ℕ → Bool → Bool → Object → Object
-initialised kind bubbles cancelable c =
-    with_property (codes "cancelable") (value.Bool cancelable) (with_property (codes "bubbles") (value.Bool bubbles) (with_property (codes "type") (value.Text kind) c))
-
 abbrev pub initialises : ObjId → List ℕ → Bool → Bool → Stage → Stage
 initialises e kind bubbles cancelable s = change e (initialised kind bubbles cancelable) s
 
 -- how far its dispatch has come
 abbrev pub delivery_at : ObjId → Stage → Option Delivery
-delivery_at e s = option_map (λ (c : Object). c.delivery) (object_at e s)
+delivery_at e s = delivery_in e s.entities
 
 abbrev pub was_dispatched : ObjId → Stage → Bool
-was_dispatched e s = option_map_or (λ (d : Delivery). d.dispatched) (delivery_at e s) false
+was_dispatched e s = dispatched_in e s.entities
 
 -- whether its default was prevented
 abbrev pub was_prevented : ObjId → Stage → Bool
 was_prevented e s = option_map_or prevented_now (delivery_at e s) false
 
-abbrev pub is_cancelable : Object → Bool
-is_cancelable c = is_true (property c (codes "cancelable"))
-
-abbrev pub opened : ObjId → Object → Object
-opened target c = with_property (codes "target") (value.Ref target) (with_delivery (opened_delivery (is_cancelable c)) c)
-
 -- its dispatch at a target begins, unless it was dispatched before
 abbrev pub started : ObjId → ObjId → Stage → Stage
-started e target s = if was_dispatched e s then s else change e (opened target) s
-
-abbrev pub arrived : Value → ℕ → Object → Object
-arrived node phase c = with_property (codes "eventPhase") (count phase) (with_property (codes "currentTarget") node c)
+started e target s = record s { entities = started_in e target s.entities }
 
 -- it has come to a node, in a phase
 abbrev pub at_node : ObjId → ObjId → ℕ → Stage → Stage
 at_node e node phase s = change e (arrived (value.Ref node) phase) s
-
-abbrev pub closed : Object → Object
-closed c = arrived value.Null 0 (with_delivery closed_delivery c)
 
 -- its dispatch is over
 abbrev pub ended : ObjId → Stage → Stage
@@ -63,9 +41,6 @@ ended e s = change e closed s
 -- what an event's marks become: it is stopped, stopped at once, or prevented
 abbrev pub marked : (Delivery → Delivery) → ObjId → Stage → Stage
 marked f e s = change e (with_delivery f) s
-
-abbrev pub with_listeners : (List Registration → List Registration) → Object → Object
-with_listeners f c = record c { listeners = f c.listeners }
 
 -- a listener is registered at a node
 abbrev pub listens : ObjId → List ℕ → ObjId × ℕ → Bool → ℤ → Stage → Addition × Stage

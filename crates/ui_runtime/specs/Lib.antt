@@ -1,4 +1,3 @@
-pub mod Entries
 pub mod Stage
 pub mod Answers
 pub mod Making

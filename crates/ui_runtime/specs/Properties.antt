@@ -3,7 +3,7 @@ use Rattle.std.specs.Prelude.{List, Option, Some, option_and_then, ℕ}
 use Rattle.flex_base.specs.declared.value.ObjId.{ObjId}
 use Rattle.flex_base.specs.declared.value.Value.{Value}
 use Rattle.component_catalog.specs.declared.class.NativeClass.{NativeClass}
-use Rattle.flex_world.specs.Classes.{Class}
+use Rattle.flex_world.specs.declared.kind.Class.{Class}
 use Rattle.flex_world.specs.Objects.{object_class}
 use Rattle.flex_objects.specs.Entities.{Inside, after_write_in, stored_in, value_of}
 use Rattle.flex_objects.specs.declared.properties.Stored.{Stored}

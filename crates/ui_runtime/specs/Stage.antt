@@ -1,10 +1,11 @@
 -- The stage: the objects of a play, and what is looked up and changed in them.
-use Rattle.std.specs.Prelude.{List, None, Option, Some, [], length, map, option_and_then, option_map, suc, ℕ}
-use Rattle.flex_base.specs.Lists.{changed_entry, entry}
+use Rattle.std.specs.Prelude.{List, Option, [], length, suc, ℕ}
+use Rattle.flex_base.specs.Lists.{changed_entry}
 use Rattle.flex_base.specs.declared.value.ObjId.{ObjId}
 use Rattle.flex_base.specs.declared.value.Value.{Value}
-use Rattle.flex_world.specs.Objects.{Object, Registration, object_in_slot}
-use Rattle.flex_objects.specs.Entities.{Entity, Inside, kept}
+use Rattle.flex_world.specs.Objects.{Object, Registration}
+use Rattle.flex_objects.specs.Entities.{Entity, Inside}
+use Rattle.stage_objects.specs.Entities.{children_in, elements_of, entity_in, held_in, inside_in, listeners_of, object_in, objects_in, with_inside, with_object}
 use Rattle.watch_table.specs.declared.watch.Watched.{Watched}
 
 pub record Stage : Type 0 where
@@ -18,31 +19,19 @@ pub record Stage : Type 0 where
 abbrev pub empty_stage : Stage
 empty_stage = record { entities = []; watched = []; cells = 0 }
 
-abbrev pub object_of : Entity → Object
-object_of e = e.object
-
-abbrev pub inside_of : Entity → Inside
-inside_of e = e.inside
-
 -- the objects, as the source knows them
 abbrev pub objects : Stage → List Object
-objects s = map object_of s.entities
+objects s = objects_in s.entities
 
 -- what is kept for the object of a number
 abbrev pub entity_at : ObjId → Stage → Option Entity
-entity_at o s = entry s.entities o.0
+entity_at o s = entity_in o s.entities
 
 abbrev pub object_at : ObjId → Stage → Option Object
-object_at o s = option_map object_of (entity_at o s)
+object_at o s = object_in o s.entities
 
 abbrev pub inside_at : ObjId → Stage → Option Inside
-inside_at o s = option_map inside_of (entity_at o s)
-
-abbrev pub with_object : (Object → Object) → Entity → Entity
-with_object f e = record e { object = f e.object }
-
-abbrev pub with_inside : (Inside → Inside) → Entity → Entity
-with_inside f e = record e { inside = f e.inside }
+inside_at o s = inside_in o s.entities
 
 abbrev pub change_entity : ObjId → (Entity → Entity) → Stage → Stage
 change_entity o f s = record s { entities = changed_entry f s.entities o.0 }
@@ -59,30 +48,15 @@ abbrev pub next_number : Stage → ObjId
 next_number s = record { 0 = suc (length s.entities) }
 
 -- the object in the slot of a key, hidden or not
-abbrev pub held_in : List Entity → ObjId → List ℕ → Option ObjId
-held_in entities o key = option_and_then (λ e. option_and_then object_in_slot (kept key e)) (entry entities o.0)
-
 abbrev pub held : Stage → ObjId → List ℕ → Option ObjId
 held s o key = held_in s.entities o key
 
-abbrev pub elements_of : Option Entity → List Value
-elements_of None = []
-elements_of (Some e) = e.object.elements
-
 abbrev pub elements_at : ObjId → Stage → List Value
 elements_at o s = elements_of (entity_at o s)
-
-abbrev pub listeners_of : Option Entity → List Registration
-listeners_of None = []
-listeners_of (Some e) = e.object.listeners
 
 -- the listeners of a node, in order of registration
 abbrev pub listeners_at : ObjId → Stage → List Registration
 listeners_at node s = listeners_of (entity_at node s)
 
-abbrev pub children_of : Option Entity → List ObjId
-children_of None = []
-children_of (Some e) = e.object.children
-
 abbrev pub children_at : ObjId → Stage → List ObjId
-children_at o s = children_of (entity_at o s)
+children_at o s = children_in o s.entities

@@ -1,17 +1,17 @@
 -- Components stand in containers.
-use Rattle.std.specs.List.{insert}
-use Rattle.std.specs.Prelude.{Bool, Err, List, None, Ok, Option, Result, Some, false, if◌then◌else◌, length, not, ℕ, ℤ, ◌∷◌}
+use Rattle.std.specs.Prelude.{Err, List, None, Ok, Option, Result, Some, if◌then◌else◌, length, not, ℕ, ℤ}
 use Rattle.flex_base.specs.declared.outcome.Stop.{Stop}
 use Rattle.flex_base.specs.declared.outcome.Stop.TheVariants as stop
 use Rattle.flex_base.specs.declared.value.ObjId.{ObjId}
-use Rattle.flex_world.specs.Children.{child_at, joined_to, place_for, without_child}
-use Rattle.flex_world.specs.Objects.{Object, Spot, ancestors_of, is_object_among, parent_of}
-use Rattle.ui_runtime.specs.Stage.{Stage, change, children_at, object_at, objects}
+use Rattle.flex_world.specs.Children.{child_at}
+use Rattle.flex_world.specs.Objects.{Spot, is_object_among, parent_of}
+use Rattle.stage_objects.specs.Tree.{joined_in, left_in, path_in, place_among, was_added}
+use Rattle.ui_runtime.specs.Stage.{Stage, children_at, object_at}
 use Rattle.ui_runtime.specs.declared.children.Placed.{Placed}
 
 -- an object, its parent, that one's parent, and so on
 abbrev pub path : ObjId → Stage → List ObjId
-path o s = o ∷ ancestors_of (objects s) o
+path o s = path_in o s.entities
 
 -- the child at a place, if there is one
 abbrev pub child : ObjId → ℤ → Stage → Option ObjId
@@ -20,33 +20,20 @@ child container place s = child_at (children_at container s) place
 abbrev pub child_count : ObjId → Stage → ℕ
 child_count container s = length (children_at container s)
 
-abbrev pub without_parent : Object → Object
-without_parent c = record c { parent = None }
-
-abbrev pub lacking : ObjId → Object → Object
-lacking o c = record c { children = without_child o c.children }
-
 abbrev pub left : ObjId → Option ObjId → Stage → Stage
-left o None s = s
-left o (Some parent) s = change o without_parent (change parent (lacking o) s)
+left o parent s = record s { entities = left_in o parent s.entities }
 
 -- a component is taken from its parent, if it has one
 abbrev pub taken_out : ObjId → Stage → Stage
 taken_out o s = left o (parent_of (object_at o s)) s
 
-abbrev pub holding_at : ℕ → ObjId → Object → Object
-holding_at place o c = record c { children = insert c.children place o }
-
+-- a component without a parent is put into a container, at a place
 abbrev pub joined : ObjId → ObjId → Option Spot → ℕ → Stage → Stage
-joined container o spot place s = change o (joined_to container spot) (change container (holding_at place o) s)
+joined container o spot place s = record s { entities = joined_in container o spot place s.entities }
 
 -- the place of a child among those that stand in the container
 abbrev pub place_in : ObjId → Option Spot → Stage → ℕ
-place_in container spot s = place_for (objects s) spot (children_at container s)
-
-abbrev pub was_added : Option Object → Bool
-was_added None = false
-was_added (Some c) = c.was_added
+place_in container spot s = place_among container spot s.entities
 
 abbrev pub placed_in : ObjId → ObjId → Option Spot → Stage → Stage → Placed × Stage
 placed_in container o spot before s = (

@@ -1,78 +1,19 @@
 // The elements of arrays.
 
 ghost use Rattle.std.specs.Option.{option_copied};
-ghost use Rattle.std.specs.Prelude.{◌≡◌, ◌<◌, IsTrue, None, OnOk, length, nat_lt, option_map, pos};
-ghost use Rattle.flex_base.specs.Lists.{changed_entry, entry};
+ghost use Rattle.std.specs.Prelude.{◌≡◌, None, option_map, pos};
 ghost use Rattle.flex_base.specs.declared.value.Value.TheVariants as value;
-ghost use Rattle.flex_world.specs.Arrays.{last_or_undefined, most_elements, with_element, with_last, without_last};
 ghost use Rattle.ui_runtime.specs.Answers.{Becomes, Comes, Does, Steps, asked};
 ghost use Rattle.ui_runtime.specs.Arrays.{appends, array_length, element, popped, pushes, without_popped, writes_at, writes_element};
-ghost use Rattle.ui_runtime.specs.Stage.{elements_of, with_object};
 
-use crate::objects::Objects;
 use crate::stage::Stage;
 use crate::state::State;
 use flex_base::{NoMemory, ObjId, RunRefusal, Stop, Value};
-
-impl Objects {
-    // The number of elements of an array.
-    pub fn array_length(&self, array: ObjId) -> i32
-        ensures { result ≡ pos (length (elements_of (entry self.now array.0))) }
-    {
-        match self.get(array) {
-            Some(entity) => entity.elements.len(),
-            None => 0,
-        }
-    }
-
-    // Whether an array has room for one more element.
-    pub fn has_room(&self, array: ObjId) -> bool
-        ensures { result ≡ nat_lt (length (elements_of (entry self.now array.0))) most_elements }
-    {
-        match self.get(array) {
-            Some(entity) => entity.elements.has_room(),
-            None => true,
-        }
-    }
-
-    // Adds an element at the end of an array.
-    #[tactic(auto, using(crate::proofs::Entries::entry_changed, crate::proofs::Entries::no_entry_changed))]
-    pub fn append(&mut self, array: ObjId, value: Value) -> Result<(), NoMemory>
-        requires { IsTrue (nat_lt (length (elements_of (entry self.old array.0))) most_elements) }
-        ensures { OnOk result (self.new ≡ changed_entry (with_object (with_last value)) self.old array.0) }
-    {
-        match self.get_mut(array) {
-            Some(entity) => entity.elements.push(value),
-            None => Ok(()),
-        }
-    }
-
-    // Puts a value in the place of the element of an array at an index.
-    #[tactic(auto, using(crate::proofs::Entries::entry_changed, crate::proofs::Entries::no_entry_changed))]
-    pub fn set_element(&mut self, array: ObjId, index: usize, value: Value)
-        requires { index < length (elements_of (entry self.old array.0)) }
-        ensures { self.new ≡ changed_entry (with_object (with_element index value)) self.old array.0 }
-    {
-        if let Some(entity) = self.get_mut(array) {
-            entity.elements.set(index, value);
-        }
-    }
-
-    // Takes the last element of an array away; without elements it gives Undefined.
-    #[tactic(auto, using(crate::proofs::Entries::entry_changed, crate::proofs::Entries::no_entry_changed))]
-    pub fn pop(&mut self, array: ObjId) -> Value
-        ensures value { result ≡ last_or_undefined (elements_of (entry self.old array.0)) }
-        ensures after { self.new ≡ changed_entry (with_object without_last) self.old array.0 }
-    {
-        match self.get_mut(array) {
-            Some(entity) => entity.elements.pop(),
-            None => Value::Undefined,
-        }
-    }
-}
+use flex_objects::Entity;
 
 impl State {
-    // Adds an element at the end of an array, where it has room, for a cell.
+    /// Adds an element at the end of an array, for a cell: `ArrayLength` where it has no room, then
+    /// `Cells`.
     pub fn append(&mut self, array: ObjId, value: Value) -> Result<(), RunRefusal>
         ensures { Comes self.old (appends array value self.old) result self.new }
     {
@@ -84,7 +25,7 @@ impl State {
         Ok(())
     }
 
-    // The same; it gives the new length.
+    /// The same; it gives the new length.
     pub fn push(&mut self, array: ObjId, value: Value) -> Result<i32, RunRefusal>
         ensures { Steps self.old (pushes array value self.old) result self.new }
     {
@@ -92,7 +33,7 @@ impl State {
         Ok(self.objects.array_length(array))
     }
 
-    // Writes the element of an array at an index; at the length it appends.
+    /// Writes the element of an array at an index; at the length it appends.
     pub fn set_at(&mut self, array: ObjId, index: usize, value: Value) -> Result<(), RunRefusal>
         ensures { Comes self.old (writes_at array index value self.old) result self.new }
     {
@@ -107,7 +48,7 @@ impl State {
         Err(RunRefusal::Stop(Stop::ArrayIndex))
     }
 
-    // The same, with an index that may be below 0.
+    /// The same, with an index that may be below 0.
     pub fn set_element(&mut self, array: ObjId, index: i32, value: Value) -> Result<(), RunRefusal>
         ensures { Comes self.old (writes_element array index value self.old) result self.new }
     {

@@ -46,7 +46,7 @@ impl Stage {
         ensures { Tells self.now (path target) result }
     {
         match &self.state {
-            Some(state) => state.path_of(alloc, target),
+            Some(state) => state.objects.path_of(alloc, target),
             None => Err(NoMemory),
         }
     }
@@ -76,7 +76,7 @@ impl Stage {
         ensures after { self.new ≡ option_map (taken_out child) self.old }
     {
         let mut state = self.state.take()?;
-        let parent = state.take_out(child);
+        let parent = state.objects.take_out(child);
         self.state = Some(state);
         parent
     }

@@ -3,7 +3,7 @@
 ghost use Rattle.std.specs.Option.{option_copied};
 ghost use Rattle.std.specs.Prelude.{◌≡◌, [], ◌∷◌, None, OnOk, false, option_map};
 ghost use Rattle.ui_runtime.specs.Answers.{Changes, asked};
-ghost use Rattle.ui_runtime.specs.Documents.{binding_at, binding_numbered, binds, closes, is_enabled, is_open, opens, watching};
+ghost use Rattle.ui_runtime.specs.Documents.{binding_at, binds, closes, is_enabled, is_open, opens, watching};
 
 use crate::stage::Stage;
 use crate::state::State;
@@ -35,7 +35,7 @@ impl Stage {
     pub fn binding(&self, document: ObjId, number: u32) -> Option<&EnabledBinding>
         ensures { option_copied result ≡ asked None (binding_at document number) self.now }
     {
-        binding_numbered(self.entity(document)?.bindings.as_slice(), number)
+        self.state.as_ref()?.objects.binding(document, number)
     }
 
     /// Enables a binding of a document, and watches its chains. After want of memory the stage
@@ -77,7 +77,12 @@ impl Stage {
 
 impl State {
     // Watches the chains of a binding.
-    fn watch_all(&mut self, document: ObjId, binding: u32, chains: &Chains) -> Result<(), NoMemory>
+    pub fn watch_all(
+        &mut self,
+        document: ObjId,
+        binding: u32,
+        chains: &Chains,
+    ) -> Result<(), NoMemory>
         ensures { OnOk result (self.new ≡ watching document binding chains.now self.old) }
     {
         for chain in chains.as_slice() {
@@ -92,11 +97,4 @@ impl State {
     {
         self.watch.add(document, binding, chain)
     }
-}
-
-// The binding of a number among some.
-fn binding_numbered(bindings: &[EnabledBinding], number: u32) -> Option<&EnabledBinding>
-    ensures { option_copied result ≡ binding_numbered number bindings.now }
-{
-    bindings.iter().find(|binding| binding.number == number)
 }

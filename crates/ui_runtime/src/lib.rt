@@ -9,14 +9,12 @@ mod arrays;
 mod children;
 #[cfg(test)]
 mod component_tests;
-mod document_changes;
 mod documents;
 #[cfg(test)]
 mod event_tests;
 mod events;
 mod listening;
 mod making;
-mod objects;
 mod placing;
 mod reading;
 mod stage;
@@ -24,12 +22,12 @@ mod state;
 mod states;
 #[cfg(test)]
 mod tests;
-mod tree;
 #[cfg(test)]
 mod value_tests;
 mod writing;
 
 pub use children::Placed;
 pub use stage::Stage;
+pub use state::State;
 pub use states::Change;
 pub use writing::Written;

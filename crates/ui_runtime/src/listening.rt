@@ -1,64 +1,19 @@
 // The listeners of nodes.
 
-ghost use Rattle.std.specs.Prelude.{◌≡◌, [], IfOk, Ok, OnOk, false, option_map};
-ghost use Rattle.flex_base.specs.Lists.{changed_entry, entry};
-ghost use Rattle.flex_world.specs.Events.{is_heard};
-ghost use Rattle.event_flow.specs.Hearing.{addition, heard_at, removal, with_listener, without_listener};
+ghost use Rattle.std.specs.Prelude.{◌≡◌, false, option_map};
 ghost use Rattle.event_flow.specs.declared.listeners.Removal.TheVariants as removal_of;
 ghost use Rattle.ui_runtime.specs.Answers.{Gives, Hands, Tells, asked};
-ghost use Rattle.ui_runtime.specs.Events.{has_listener, hearers_of, listens, removed, unlistens, with_listeners};
-ghost use Rattle.ui_runtime.specs.Stage.{listeners_of, with_object};
+ghost use Rattle.ui_runtime.specs.Events.{has_listener, hearers_of, listens, removed, unlistens};
 
-use crate::objects::Objects;
 use crate::stage::Stage;
 use crate::state::State;
 use event_flow::{Addition, Removal};
 use flex_base::{ListenerList, NoMemory, ObjId, Text};
+use flex_objects::Entity;
 use std::alloc::Global;
 
-impl Objects {
-    // Registers a listener at a node.
-    #[tactic(auto, using(crate::proofs::Entries::entry_changed, crate::proofs::Entries::no_entry_changed))]
-    pub fn listen(
-        &mut self,
-        node: ObjId,
-        kind: &Text,
-        listener: (ObjId, u32),
-        capture: bool,
-        priority: i32,
-    ) -> Result<Addition, NoMemory>
-        ensures answer { IfOk result (λ a. a ≡ addition kind.now listener capture (listeners_of (entry self.old node.0))) }
-        ensures after { OnOk result (self.new ≡
-            changed_entry (with_object (with_listeners (with_listener kind.now listener capture priority))) self.old node.0) }
-    {
-        match self.get_mut(node) {
-            Some(entity) => entity.listeners.add(kind, listener, capture, priority),
-            None => Ok(Addition::New),
-        }
-    }
-
-    // Removes a listener of a node.
-    #[tactic(auto, using(crate::proofs::Entries::entry_changed, crate::proofs::Entries::no_entry_changed))]
-    pub fn unlisten(
-        &mut self,
-        node: ObjId,
-        kind: &Text,
-        listener: (ObjId, u32),
-        capture: bool,
-    ) -> Removal
-        ensures answer { result ≡ removal kind.now listener capture (listeners_of (entry self.old node.0)) }
-        ensures after { self.new ≡
-            changed_entry (with_object (with_listeners (without_listener kind.now listener capture))) self.old node.0 }
-    {
-        match self.get_mut(node) {
-            Some(entity) => entity.listeners.remove(kind, listener, capture),
-            None => Removal::Absent,
-        }
-    }
-}
-
 impl State {
-    // Registers a listener at a node.
+    /// Registers a listener at a node.
     pub fn listen(
         &mut self,
         node: ObjId,

@@ -2,7 +2,6 @@
 
 ghost use Rattle.std.specs.Option.{option_copied};
 ghost use Rattle.std.specs.Prelude.{◌≡◌, None, option_map};
-ghost use Rattle.flex_world.specs.Kinds.{class_of};
 ghost use Rattle.ui_runtime.specs.Answers.{asked};
 ghost use Rattle.ui_runtime.specs.Stage.{entity_at};
 ghost use Rattle.ui_runtime.specs.Properties.{class_at, native_at, reads};
@@ -30,7 +29,7 @@ impl Stage {
 
     /// The class of an object; `None` exactly where the number is that of an array or of nothing.
     pub fn class_of(&self, object: ObjId) -> Option<Class>
-        ensures { option_map class_of result ≡ asked None (class_at object) self.now }
+        ensures { result ≡ asked None (class_at object) self.now }
     {
         self.entity(object)?.class()
     }

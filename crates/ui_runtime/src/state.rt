@@ -5,9 +5,9 @@ ghost use Rattle.ui_runtime.specs.Answers.{Pays, Steps};
 ghost use Rattle.ui_runtime.specs.Making.{makes, makes_array, most_cells, pays, takes_number};
 ghost use Rattle.ui_runtime.specs.Stage.{empty_stage};
 
-use crate::objects::Objects;
 use flex_base::{NoMemory, ObjId, RunRefusal, Stop};
 use flex_objects::{ClassInfo, Entity};
+use stage_objects::Objects;
 use std::alloc::Global;
 use std::marker::Model;
 use watch_table::Watch;
@@ -18,11 +18,15 @@ const MOST_CELLS: u32 = 1_000_000;
 // What an object costs beside its slots.
 const OBJECT_COST: u32 = 16;
 
-// The objects of a play, the watched chains, and the cells that were made.
+/// A stage that has memory: the objects of a play, the watched chains, and the cells that were made.
+/// After a call that refuses memory it promises nothing, and is used no more.
 #[derive(Drop)]
 pub struct State {
+    /// The objects, arrays and events, by their numbers.
     pub objects: Objects,
+    /// The watched chains of the bindings that are enabled.
     pub watch: Watch,
+    // At most 1,000,000.
     cells: u32,
     ghost few: { cells ≤ most_cells },
 }
@@ -41,6 +45,7 @@ impl Model for State {
 }
 
 impl State {
+    /// The state without objects. It takes no memory.
     pub fn new(alloc: Global) -> State
         ensures { result ≡ empty_stage }
     {
@@ -51,7 +56,8 @@ impl State {
         }
     }
 
-    // Takes the cells of an object, and one for each of its slots.
+    /// Takes the cells of an object, and one for each of its slots; `Cells` where there would be
+    /// more than 1,000,000, and then nothing changes.
     pub fn pay(&mut self, object: u32, slots: usize) -> Result<(), Stop>
         ensures { Pays self.old (pays (object + slots) self.old) result self.new }
     {
@@ -63,7 +69,7 @@ impl State {
         Ok(())
     }
 
-    // Gives an object the next number.
+    /// Gives an object the next number.
     pub fn add(&mut self, entity: Entity) -> Result<ObjId, NoMemory>
         ensures { IfOk result (λ number. Ok (number, self.new) ≡ takes_number entity self.old) }
     {
@@ -73,7 +79,7 @@ impl State {
         Ok(ObjId(number))
     }
 
-    // Makes an object of a class.
+    /// Makes an object of a class. It costs 16 cells and one for each slot that isn't hidden.
     pub fn make(&mut self, alloc: Global, class: &ClassInfo) -> Result<ObjId, RunRefusal>
         ensures { Steps self.old (makes class.now self.old) result self.new }
     {
@@ -82,7 +88,7 @@ impl State {
         Ok(self.add(entity)?)
     }
 
-    // Makes an array.
+    /// Makes an array without elements. It costs a cell.
     pub fn make_array(&mut self, alloc: Global) -> Result<ObjId, RunRefusal>
         ensures { Steps self.old (makes_array self.old) result self.new }
     {

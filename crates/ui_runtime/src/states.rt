@@ -1,13 +1,13 @@
 // The states of documents.
 
 ghost use Rattle.std.specs.Option.{option_copied};
-ghost use Rattle.std.specs.Prelude.{◌≡◌, None, false, is_some, option_map};
+ghost use Rattle.std.specs.Prelude.{◌≡◌, None, false, option_map};
 ghost use Rattle.ui_runtime.specs.Answers.{Changes, Does, Steps, asked};
-ghost use Rattle.ui_runtime.specs.Documents.{begins_first, first_state, has_begun, has_state, is_current, is_text, keeping_at, kept_name, over, registers, requests, state_at, state_named, waits};
+ghost use Rattle.ui_runtime.specs.Documents.{begins_first, first_state, has_begun, has_state, is_current, kept_name, over, registers, requests, state_at};
 
 use crate::stage::Stage;
 use crate::state::State;
-use flex_base::{NoMemory, ObjId, RunRefusal, Stop, Text, Value};
+use flex_base::{NoMemory, ObjId, RunRefusal, Stop, Text};
 use flex_objects::{Entity, RegisteredState};
 
 /// What a request for a state comes to.
@@ -28,7 +28,7 @@ impl Stage {
         ensures { result ≡ asked false (has_state document name.now) self.now }
     {
         match &self.state {
-            Some(state) => state.has_state(document, name),
+            Some(state) => state.objects.has_state(document, name),
             None => false,
         }
     }
@@ -38,7 +38,7 @@ impl Stage {
         ensures { result ≡ asked false (is_current document name.now) self.now }
     {
         match &self.state {
-            Some(state) => state.is_current(document, name),
+            Some(state) => state.objects.is_current(document, name),
             None => false,
         }
     }
@@ -47,7 +47,7 @@ impl Stage {
     pub fn state(&self, document: ObjId, name: &Text) -> Option<&RegisteredState>
         ensures { option_copied result ≡ asked None (state_at document name.now) self.now }
     {
-        state_named(self.entity(document)?.states.as_slice(), name)
+        self.state.as_ref()?.objects.state(document, name)
     }
 
     /// The name of the first state of a document; `None` exactly where it has no states.
@@ -113,36 +113,18 @@ impl Stage {
 }
 
 impl State {
-    fn has_state(&self, document: ObjId, name: &Text) -> bool
-        ensures { result ≡ has_state document name.now self.now }
-    {
-        match self.objects.get(document) {
-            Some(entity) => state_named(entity.states.as_slice(), name).is_some(),
-            None => false,
-        }
-    }
-
-    fn is_current(&self, document: ObjId, name: &Text) -> bool
-        ensures { result ≡ is_current document name.now self.now }
-    {
-        match self.objects.get(document) {
-            Some(entity) => is_text(name, entity.fields.get("currentState")),
-            None => false,
-        }
-    }
-
     // A state is asked for.
-    fn request(&mut self, document: ObjId, name: &Text) -> Result<Change, RunRefusal>
+    pub fn request(&mut self, document: ObjId, name: &Text) -> Result<Change, RunRefusal>
         ensures { Steps self.old (requests document name.now self.old) result self.new }
     {
-        if !self.has_state(document, name) {
+        if !self.objects.has_state(document, name) {
             return Err(RunRefusal::Stop(Stop::UnknownState));
         }
-        if self.waits(document) {
+        if self.objects.waits(document) {
             self.objects.keep(document, name.clone()?);
             return Ok(Change::Kept);
         }
-        if self.is_current(document, name) {
+        if self.objects.is_current(document, name) {
             return Ok(Change::Nothing);
         }
         self.objects.begin(document);
@@ -150,52 +132,13 @@ impl State {
     }
 
     // The change begins by which a document enters its first state, if it has one.
-    fn begin_first(&mut self, document: ObjId)
+    pub fn begin_first(&mut self, document: ObjId)
         ensures { self.new ≡ begins_first document self.old }
     {
-        let has_states = self.has_states(document);
+        let has_states = self.objects.has_states(document);
         self.objects.start(document);
         if has_states {
             self.objects.begin(document);
         }
-    }
-
-    // Whether a document has states.
-    fn has_states(&self, document: ObjId) -> bool
-        ensures { result ≡ is_some (first_state document self.now) }
-    {
-        match self.objects.get(document) {
-            Some(entity) => entity.states.get(0).is_some(),
-            None => false,
-        }
-    }
-
-    // Whether a name that is asked for is kept for later.
-    fn waits(&self, document: ObjId) -> bool
-        ensures { result ≡ waits (keeping_at document self.now) }
-    {
-        match self.objects.get(document) {
-            Some(entity) => entity.keeping.is_running() || !entity.keeping.has_entered(),
-            None => true,
-        }
-    }
-}
-
-// The state of this name among some.
-fn state_named<'s>(states: &'s [RegisteredState], name: &Text) -> Option<&'s RegisteredState>
-    ensures { option_copied result ≡ state_named name.now states.now }
-{
-    states
-        .iter()
-        .find(|state| state.name.as_str() == name.as_str())
-}
-
-// Whether a value, if there is one, is this text.
-fn is_text(text: &Text, value: Option<&Value>) -> bool
-    ensures { result ≡ is_text text.now (option_copied value.entry) }
-{
-    match value {
-        Some(Value::Text(held)) => held.as_str() == text.as_str(),
-        _ => false,
     }
 }

@@ -1,20 +1,17 @@
 // Properties are written.
 
-ghost use Rattle.std.specs.Prelude.{◌≡◌, IfOk, Ok, option_and_then};
-ghost use Rattle.flex_base.specs.Lists.{changed_entry, entry};
-ghost use Rattle.flex_objects.specs.Entities.{after_write_in, stored_in};
+ghost use Rattle.std.specs.Prelude.{◌≡◌, IfOk, Ok};
 ghost use Rattle.ui_runtime.specs.Answers.{Does};
 ghost use Rattle.ui_runtime.specs.Properties.{writes};
 ghost use Rattle.ui_runtime.specs.Stage.{held};
 ghost use Rattle.watch_table.specs.Affected.{affected};
 
-use crate::objects::Objects;
 use crate::stage::Stage;
 use crate::state::State;
 use flex_base::{NoMemory, ObjId, RunRefusal, Text, Value};
 use flex_objects::Stored;
 use std::alloc::Global;
-use watch_table::{Fields, Pairs, Steps};
+use watch_table::{Pairs, Steps};
 
 /// What the write of a property comes to.
 #[derive(Drop)]
@@ -27,34 +24,9 @@ pub enum Written {
     Changed(Pairs),
 }
 
-impl Fields for Objects {
-    ghost use Rattle.ui_runtime.specs.Stage.{held_in};
-
-    ghost held = { λ objects object key. held_in objects object key };
-
-    fn field<L>(&self, object: ObjId, name: &Text, steps: &mut Steps<L>) -> Option<ObjId> {
-        steps.raise();
-        self.get(object)?.object(name.as_str())
-    }
-}
-
-impl Objects {
-    // Writes the property of a key of an object. `None` exactly where there is none, and then
-    // nothing changes.
-    #[tactic(auto, using(crate::proofs::Entries::entry_changed, crate::proofs::Entries::no_entry_changed))]
-    pub fn write(&mut self, object: ObjId, key: &str, value: Value) -> Option<Stored>
-        ensures answer { result ≡ option_and_then (stored_in key.now value) (entry self.old object.0) }
-        ensures after { self.new ≡ changed_entry (after_write_in key.now value) self.old object.0 }
-    {
-        match self.get_mut(object) {
-            Some(entity) => entity.write(key, value),
-            None => None,
-        }
-    }
-}
-
 impl State {
-    // Writes the property of a key of an object.
+    /// Writes the property of a key of an object; where bindings watch it, those are given that the
+    /// change affects.
     pub fn write(
         &mut self,
         alloc: Global,

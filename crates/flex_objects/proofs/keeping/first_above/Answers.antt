@@ -2,8 +2,7 @@ use Rattle.std.proofs.Common.{rules, ◌∙◌, ap, length}
 use Rattle.std.proofs.lemmas.Iterator.{YieldsList-from_slice}
 use Rattle.std.proofs.lemmas.Iterator.Search.{position_from_yields_List}
 use Rattle.std.specs.Prelude.{nat_lt, unwrap_or}
-use Rattle.event_flow.proofs.Insertions.{found_or_last}
-use Rattle.flex_objects.proofs.Positions.{place_within}
+use Rattle.flex_objects.proofs.Positions.{found_or_last, place_within}
 use Rattle.flex_objects.proofs.keeping.first_above.Goals as goal
 
 pub returns : goal.returns

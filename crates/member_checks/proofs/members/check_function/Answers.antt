@@ -1,5 +1,5 @@
 -- The name, and then what it names.
-use Rattle.std.proofs.Common.{◌∙◌, ◌++◌, ap, sym, map}
+use Rattle.std.proofs.Common.{◌++◌, sym, map}
 use Rattle.source_sites.specs.Trees.{locals_of_body, parameter_of, result_of}
 use Rattle.class_sites.specs.MemberSites.{name_of_function}
 use Rattle.as3_types.specs.Types.{function_of}

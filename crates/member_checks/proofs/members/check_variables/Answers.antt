@@ -1,10 +1,10 @@
 -- Variable by variable.
-use Rattle.std.proofs.Common.{◌∙◌, [], ap, sym, map, refl}
+use Rattle.std.proofs.Common.{ap, sym, map}
 use Rattle.std.specs.List.{flat_map}
 use Rattle.source_sites.specs.Sites.{first_site}
 use Rattle.source_sites.specs.Trees.{variable_of}
 use Rattle.member_checks.specs.CodeRules.{variable_rules}
-use Rattle.member_checks.proofs.Walks.{all_hold, fails_here, holds_here}
+use Rattle.member_checks.proofs.Walks.{fails_here, holds_here}
 use Rattle.member_checks.proofs.members.check_variables.Goals as goal
 
 pub returns-then-is_some : goal.returns-then-is_some

@@ -1,5 +1,5 @@
 -- The name of a function, which may be the constructor or an override.
-use Rattle.std.proofs.Common.{◌≡◌, ◌∙◌, ap, sym, not, ◌||◌, Bool}
+use Rattle.std.proofs.Common.{◌≡◌, ◌∙◌, ap, not, ◌||◌}
 use Rattle.std.specs.Prelude.{Option, is_some, option_map}
 use Rattle.source_sites.specs.Functions.{access_of, is_constructor, overrides}
 use Rattle.source_sites.specs.Members.{Found, signature_of}

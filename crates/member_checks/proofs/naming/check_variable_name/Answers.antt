@@ -1,7 +1,6 @@
 -- A variable is no constructor and overrides nothing.
 use Rattle.std.proofs.Common.{◌∙◌, ap, false, true, not, ◌||◌}
 use Rattle.source_sites.specs.Sites.{first_site}
-use Rattle.source_sites.specs.Texts.{is_there}
 use Rattle.source_sites.specs.Trees.{variable_of}
 use Rattle.member_checks.specs.Places.{places_before}
 use Rattle.member_checks.specs.CodeRules.{above_unless, rules_of_name}

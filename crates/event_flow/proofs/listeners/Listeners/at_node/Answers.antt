@@ -1,31 +1,25 @@
-use Rattle.std.proofs.lemmas.List.{take_all}
-use Rattle.std.proofs.Common.{◌≡◌, ◌∙◌, map, ap, sym, arith}
-use Rattle.flex_world.specs.Events.{insert_by_priority, listener_of}
-use Rattle.event_flow.specs.Hearing.{listener_pair, phase_of}
-use Rattle.event_flow.proofs.Hearers.{heard, heard_more, heard_same, hearers_by_number, pairs_of_hearers}
-use Rattle.event_flow.proofs.listeners.Listeners.at_node.Goals.{then-hears+in_ok-insert_by_priority, else-hears}
+use Rattle.std.proofs.Common.{◌≡◌, ◌∙◌, [], IfOk, ap, fold, subst, sym}
+use Rattle.std.specs.Prelude.{◌==◌, false}
+use Rattle.event_flow.specs.Hearers.{hearers_after, listeners, with_pair}
+use Rattle.event_flow.specs.Hearing.{heard_at}
+use Rattle.event_flow.proofs.Numbered.{heard_alike, none_pass, none_tells, number_tells, stands_at}
 use Rattle.event_flow.proofs.listeners.Listeners.at_node.Goals as goal
 
-pub loop-registration-preserved : goal.loop-registration-preserved
-loop-registration-preserved c =
-    let rs = c.deref-registration-items.result.now in
-    let r = c.registration-item.result in
-    let i = c.loop-registration.registration-index in
+pub returns-in_ok-hearers-in-Some : goal.returns-in_ok-hearers-in-Some
+returns-in_ok-hearers-in-Some c =
     let kind = c.args.kind.now in
-    let phase = phase_of c.args.phase in
-    elim c.if-hears.branch [
-      | then-hears+in_ok-insert_by_priority w ↦ ap (λ v. map (λ r. r.now) v.items) w.hearers-is ∙ w.in_ok-insert_by_priority.ensures ∙ ap (λ l. insert_by_priority l r) c.loop-registration.invariant ∙ sym (heard_more kind phase rs i r (omega arith) c.registration-item.is (sym c.hears.ensures ∙ w.if-hears.true))
-      | else-hears w ↦ ap (λ v. map (λ r. r.now) v.items) w.hearers-is ∙ c.loop-registration.invariant ∙ sym (heard_same kind phase rs i r (omega arith) c.registration-item.is (sym c.hears.ensures ∙ w.if-hears.false))
-    ]
+    let kinds = c.self.inside.kinds in
+    let number = c.in-Some.number in
+    let phase = c.args.phase in
+    let tells = number_tells kinds kind number (stands_at kinds kind c.number_of.result number c.number_of.ensures c.in-Some.is) in
+    let is : listeners (hearers_after number phase [] c.self.inside.registrations) ≡ heard_at kind phase c.args.self.now =
+    sym (heard_alike kinds kind (λ n. number == n) tells phase c.self.inside.registrations c.self.inside.numbered) ∙ ap (heard_at kind phase) c.self.view_is in
+    subst (λ xs. IfOk c.list-in-Some.result (λ list. list ≡ xs)) (ap listeners c.in_ok-hearers-in-Some.ensures ∙ is) c.list-in-Some.ensures
 
-pub returns : goal.returns
-returns c =
-    let rs = c.deref-registration-items.result.now in
-    let found = c.deref-hearer-items.result.now in
+pub returns-in-None : goal.returns-in-None
+returns-in-None c =
     let kind = c.args.kind.now in
-    let phase = phase_of c.args.phase in
-    let all : rs ≡ c.args.self.now = c.deref-registration-items.ensures.value ∙ c.self.view_is in
-    let heard_all : map (λ r. r.now) found ≡ heard kind phase c.args.self.now =
-    ap (map (λ r. r.now)) c.deref-hearer-items.ensures.value ∙ c.loop-registration.invariant ∙ ap (heard kind phase) (take_all _ rs c.loop-registration-test.false ∙ all) in
-    c.loop-hearer.invariant ∙ ap (map (λ r. listener_pair (listener_of r.now))) (take_all _ found c.loop-hearer-test.false) ∙ pairs_of_hearers (λ r. r.now) found
-    ∙ ap (λ l. map listener_pair (map listener_of l)) heard_all ∙ ap (map listener_pair) (hearers_by_number kind c.args.phase c.args.self.now)
+    let kinds = c.self.inside.kinds in
+    let phase = c.args.phase in
+    let tells = none_tells kinds kind (λ n is. sym c.in-None.is ∙ (c.number_of.ensures n).1 is) in
+    c.new.ensures ∙ sym (heard_alike kinds kind (λ n. false) tells phase c.self.inside.registrations c.self.inside.numbered ∙ ap (λ pairs. listeners (fold with_pair [] pairs)) (none_pass c.self.inside.registrations)) ∙ ap (heard_at kind phase) c.self.view_is

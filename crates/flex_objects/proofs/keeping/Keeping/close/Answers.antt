@@ -1,7 +1,6 @@
-use Rattle.std.proofs.Common.{rules, ◌≡◌, ◌∙◌, ap, refl, sym, ℕ, List, ◌∷◌, ◌==◌}
+use Rattle.std.proofs.Common.{rules, ◌≡◌, ◌∙◌, ap, refl, sym, ◌==◌}
 use Rattle.std.proofs.lemmas.Iterator.{YieldsList-from_slice}
 use Rattle.std.proofs.lemmas.Iterator.Search.{position_from_yields_List}
-use Rattle.std.specs.List.{position}
 use Rattle.flex_world.specs.Objects.{without_number}
 use Rattle.flex_objects.specs.Entities.{without_open}
 use Rattle.flex_objects.proofs.Positions.{cut, cut_first}

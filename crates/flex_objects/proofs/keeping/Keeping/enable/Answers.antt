@@ -1,4 +1,4 @@
-use Rattle.std.proofs.Common.{◌≡◌, ◌∙◌, arith, ap, refl, sym, ℕ, List, ◌∷◌}
+use Rattle.std.proofs.Common.{◌≡◌, ◌∙◌, arith, ap, refl}
 use Rattle.std.specs.List.{insert, position_or_len}
 use Rattle.std.specs.Prelude.{nat_lt}
 use Rattle.flex_objects.specs.Entities.{insert_number, with_enabled}

@@ -1,5 +1,5 @@
-use Rattle.std.proofs.Common.{◌≡◌, ◌∙◌, ap, sym}
-use Rattle.std.specs.Prelude.{option_map, slice_get}
+use Rattle.std.proofs.Common.{◌∙◌, ap, sym}
+use Rattle.std.specs.Prelude.{option_map}
 use Rattle.flex_world.specs.Objects.{Field}
 use Rattle.flex_objects.proofs.Fields.{field_at, field_found}
 use Rattle.flex_objects.proofs.properties.Properties.get.Goals as goal

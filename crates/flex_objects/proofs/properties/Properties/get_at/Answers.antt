@@ -1,4 +1,4 @@
-use Rattle.std.proofs.Common.{◌≡◌, ◌∙◌, ap, sym}
+use Rattle.std.proofs.Common.{◌∙◌, ap, sym}
 use Rattle.std.specs.Prelude.{option_map, slice_get}
 use Rattle.flex_world.specs.Objects.{Field}
 use Rattle.flex_objects.specs.Properties.{items_of}

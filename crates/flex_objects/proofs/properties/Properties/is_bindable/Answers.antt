@@ -1,7 +1,7 @@
 use Rattle.std.proofs.Common.{◌≡◌, ◌∙◌, ap, sym}
 use Rattle.std.specs.Prelude.{option_map}
 use Rattle.flex_world.specs.Objects.{field_named}
-use Rattle.flex_objects.specs.Properties.{filled, is_watched, items_of}
+use Rattle.flex_objects.specs.Properties.{is_watched, items_of}
 use Rattle.flex_objects.proofs.Fields.{watched_alike}
 use Rattle.flex_objects.proofs.properties.Properties.is_bindable.Goals as goal
 

@@ -1,4 +1,4 @@
-use Rattle.std.proofs.Common.{◌≡◌, ◌∙◌, ap, sym}
+use Rattle.std.proofs.Common.{◌∙◌, ap, sym}
 use Rattle.std.specs.Prelude.{option_and_then}
 use Rattle.flex_world.specs.Objects.{object_in_slot}
 use Rattle.flex_objects.proofs.Fields.{field_at, field_found}

@@ -1,6 +1,6 @@
 use Rattle.std.proofs.Common.{◌≡◌, ◌∙◌, ap, sym}
 use Rattle.std.specs.Prelude.{option_map}
-use Rattle.flex_objects.specs.Properties.{filled, items_of, place_of}
+use Rattle.flex_objects.specs.Properties.{items_of, place_of}
 use Rattle.flex_objects.proofs.Fields.{place_filled}
 use Rattle.flex_objects.proofs.properties.Properties.place_of.Goals as goal
 

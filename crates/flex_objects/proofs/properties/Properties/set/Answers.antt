@@ -1,5 +1,4 @@
-use Rattle.std.proofs.Common.{◌≡◌, ◌∙◌, ap, sym}
-use Rattle.std.specs.Prelude.{None, Some}
+use Rattle.std.proofs.Common.{◌∙◌, ap, sym}
 use Rattle.flex_objects.proofs.Fields.{changed_where, value_placed}
 use Rattle.flex_objects.proofs.properties.Properties.set.Goals as goal
 

@@ -1,4 +1,4 @@
-use Rattle.std.proofs.Common.{◌≡◌, ◌∙◌, ◌≤◌, ap, sym, arith, length}
+use Rattle.std.proofs.Common.{◌∙◌, ◌≤◌, ap, sym, arith, length}
 use Rattle.std.specs.Prelude.{option_map}
 use Rattle.flex_base.specs.Lists.{changed_at}
 use Rattle.flex_objects.specs.Properties.{holding, items_of}

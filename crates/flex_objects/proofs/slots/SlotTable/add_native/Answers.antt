@@ -1,6 +1,5 @@
-use Rattle.std.proofs.Common.{◌≡◌, ◌∙◌, ◌++◌, ap, map, subst, sym, ℕ, List}
+use Rattle.std.proofs.Common.{◌∙◌, ap, subst, sym}
 use Rattle.std.specs.List.{fold}
-use Rattle.flex_world.specs.Making.{native_fields}
 use Rattle.flex_objects.specs.Properties.{with_named}
 use Rattle.flex_objects.proofs.NativeSlots.{Ready, start_named, start_ready}
 use Rattle.flex_objects.proofs.slots.SlotTable.add_native.Goals as goal

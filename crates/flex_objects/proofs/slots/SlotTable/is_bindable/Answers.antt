@@ -1,4 +1,4 @@
-use Rattle.std.proofs.Common.{◌≡◌, ◌∙◌, ap, sym}
+use Rattle.std.proofs.Common.{◌∙◌, ap, sym}
 use Rattle.flex_world.specs.Objects.{field_named}
 use Rattle.flex_objects.specs.Properties.{is_watched}
 use Rattle.flex_objects.proofs.Tables.{is_bindable, watched_found}

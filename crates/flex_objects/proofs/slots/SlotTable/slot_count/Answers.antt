@@ -1,4 +1,4 @@
-use Rattle.std.proofs.Common.{◌≡◌, ◌∙◌, ◌≤◌, ◌+◌, ap, sym, suc, take, length, cond, true, false, arith}
+use Rattle.std.proofs.Common.{◌≡◌, ◌∙◌, ◌+◌, ap, sym, suc, take, length, cond, arith}
 use Rattle.std.specs.Prelude.{slice_get}
 use Rattle.flex_world.specs.Making.{slots}
 use Rattle.flex_objects.specs.Properties.{is_slot_in}

@@ -1,5 +1,6 @@
 use Rattle.std.proofs.Common.{IfOk, subst, ◌≡◌}
-use Rattle.ui_runtime.specs.Stage.{Stage, held, held_in}
+use Rattle.stage_objects.specs.Entities.{held_in}
+use Rattle.ui_runtime.specs.Stage.{Stage, held}
 use Rattle.watch_table.specs.Affected.{affected}
 use Rattle.ui_runtime.proofs.Watching.{pairs_affected}
 use Rattle.ui_runtime.proofs.state.State.affected.Goals as goal

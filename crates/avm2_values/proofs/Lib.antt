@@ -1,0 +1,4 @@
+pub mod Locals
+pub mod Objects
+pub mod Continuing
+pub mod Reversed

@@ -1,0 +1,2 @@
+pub mod FileByFile
+pub mod Seen

@@ -1,0 +1,4 @@
+pub mod Columns
+pub mod Ids
+pub mod Seen
+pub mod Sent

@@ -1,0 +1,4 @@
+pub mod Stands
+pub mod Image
+pub mod Following
+pub mod Laws

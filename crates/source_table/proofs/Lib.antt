@@ -1,0 +1,3 @@
+pub mod FirstTaken
+pub mod SameConstructors
+pub mod SameEvents

@@ -1,0 +1,10 @@
+use Rattle.std.proofs.Common.{◌≡◌, ◌++◌, length, map}
+use Rattle.as3_types.specs.Tables.{event_of}
+use Rattle.class_table.specs.Columns.{events_declared}
+use Rattle.source_table.proofs.events.add_events.Given as goal
+
+abbrev pub invariant-loop-tag : goal.invariant-loop-tag
+invariant-loop-tag l = map event_of l.events ++ events_declared l.fn.table l.fn.here l.rest ≡ map event_of l.fn.events ++ events_declared l.fn.table l.fn.here l.fn.tags
+
+abbrev pub decreases-loop-tag : goal.decreases-loop-tag
+decreases-loop-tag l = length l.rest

@@ -1,0 +1,4 @@
+mod Entries
+mod Forerunners
+mod Outward
+mod Places

@@ -1,0 +1,5 @@
+pub mod Entries
+pub mod Entities
+pub mod Tree
+pub mod Events
+pub mod Documents
