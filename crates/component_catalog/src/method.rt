@@ -100,8 +100,8 @@ const ELEMENT: ValueType = ValueType::Object(NativeClass::UIComponent);
 const FLAG: Parameter = Parameter::Optional(ValueType::Boolean, StartValue::Bool(false));
 
 impl NativeMethod {
-    // Its parameters, in order.
-    fn parameters(self) -> &'static [Parameter]
+    /// Its parameters, in order; the optional ones are the last.
+    pub fn parameters(self) -> &'static [Parameter]
         ensures { result.now ≡ parameters_of self }
     {
         match self {
