@@ -32,8 +32,11 @@ fn the_left_operand_lies_below(rt: HostRuntime) -> Result<(), Fail> {
     let alloc = rt.alloc();
     let mut work = work_of(alloc, 7, 3)?;
     assert!(rt; apply_operator(alloc, &mut work, Operator::Minus).is_ok());
-    let difference = take(&mut work);
-    assert!(rt; matches!(difference, Ok(operand) if is_int(&operand, 4)));
+    let is_difference = match take(&mut work) {
+        Ok(operand) => is_int(&operand, 4),
+        Err(_) => false,
+    };
+    assert!(rt; is_difference);
     Ok(())
 }
 
