@@ -1,3 +1,4 @@
 pub mod Behind
 pub mod Slots
+pub mod Stored
 pub mod Told

@@ -41,7 +41,7 @@ target_told key slot o is = told target_of (λ x field. refl) key (Some slot) o 
 pub no_target : (key : List ℕ) (o : Option Field) → ((x : Value) → None ≡ option_map (holding x) o) → None ≡ option_map target_of o
 no_target key o is = told target_of (λ x field. refl) key None o is
 
-named : (key : List ℕ) (fields : List Field) (f : Field) → field_named key fields ≡ Some f → f.name ≡ key
+pub named : (key : List ℕ) (fields : List Field) (f : Field) → field_named key fields ≡ Some f → f.name ≡ key
 named key [] f is = absurd (cc)
 named key (g ∷ fields) f is = by (named key fields f) (bytes_eq g.name key) refl is
   where
@@ -58,7 +58,7 @@ same_choose : {A : Type 0} (b : Bool) (first second other : Heap → Result A) (
 same_choose true first second other h same = refl
 same_choose false first second other h same = same
 
-same_item : (o : ObjId) (f : Field) (v : Value) (b : Bool)
+pub same_item : (o : ObjId) (f : Field) (v : Value) (b : Bool)
     → cond b (Some (trace.Written o f.text v)) None ≡ item_at o v (cond b (Some f.text) None)
 same_item o f v true = refl
 same_item o f v false = refl

@@ -1,7 +1,7 @@
 -- What a write has to know of a property.
 use Rattle.std.specs.Prelude.{Bool, List, None, Option, Some, if◌then◌else◌, not, option_map, ℕ, ◌||◌}
 use Rattle.avm2_effects.specs.declared.targets.Target.{Target}
-use Rattle.avm2_meaning.specs.Properties.{into_slot, store}
+use Rattle.avm2_meaning.specs.Properties.{into_slot, store, store_field}
 use Rattle.avm2_meaning.specs.Results.{Goes, Result, bind, choose, inside, need, on, or_fault, test}
 use Rattle.avm2_meaning.specs.States.{request}
 use Rattle.avm2_meaning.specs.declared.effect.Effect.{Effect}
@@ -25,6 +25,14 @@ target_of f = record { kind = f.type; read_only = f.read_only; is_state = is_sta
 
 abbrev pub target : ObjId → List ℕ → Heap → Result Target
 target o key h = on o h (λ c. or_fault fault.WrongKind (option_map target_of (field_named key c.fields)) h (λ t. Goes t h))
+
+-- a property that has to be there
+abbrev pub kept_target : ObjId → List ℕ → Heap → Result Target
+kept_target o key h = on o h (λ c. need (option_map target_of (field_named key c.fields)) h (λ t. Goes t h))
+
+-- writes a value to it, as it is
+abbrev pub store_at : ObjId → List ℕ → Value → Heap → Result Effect
+store_at o key v h = on o h (λ c. need (field_named key c.fields) h (λ f. store_field o f v h))
 
 abbrev pub field_type : Field → StaticType
 field_type f = f.type

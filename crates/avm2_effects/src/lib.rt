@@ -17,4 +17,4 @@ pub use children::{add, take_out};
 pub use methods::{body_of, call_listener, call_method, initialiser, method_at, owner_of, prepare};
 pub use own_slots::is_class;
 pub use states::{request, request_kept, request_state};
-pub use writing::{store, write};
+pub use writing::{store, store_at, write};

@@ -2,7 +2,7 @@
 
 ghost use Rattle.std.specs.Prelude.{◌≡◌, IfOk, option_map};
 ghost use Rattle.flex_objects.specs.Properties.{slot_field};
-ghost use Rattle.avm2_effects.specs.Writes.{hidden_type, recorded_text, target, target_of};
+ghost use Rattle.avm2_effects.specs.Writes.{hidden_type, kept_target, recorded_text, target, target_of};
 ghost use Rattle.flex_world.specs.Objects.{field_named, is_state_field};
 ghost use Rattle.avm2_values.specs.Answers.{Gives};
 
@@ -75,6 +75,19 @@ pub fn target_at(heap: &Heap, object: ObjId, key: &Text) -> Result<Target, Refus
     match target_in(&entity.fields, key)? {
         Some(target) => Ok(target),
         None => Err(Refusal::from(MachineFault::WrongKind)),
+    }
+}
+
+// The same of a property that has to be there.
+pub fn kept_target(heap: &Heap, object: ObjId, key: &Text) -> Result<Target, Refusal>
+    ensures { Gives result heap.now (kept_target object key.now heap.now) }
+{
+    let Some(entity) = heap.stage.objects.get(object) else {
+        return Err(Refusal::from(MachineFault::NotHere));
+    };
+    match target_in(&entity.fields, key)? {
+        Some(target) => Ok(target),
+        None => Err(Refusal::from(MachineFault::NotHere)),
     }
 }
 

@@ -1,7 +1,7 @@
 // Writing what a name is at a value.
 
 ghost use Rattle.std.specs.Prelude.{◌≡◌, IfOk, option_map};
-ghost use Rattle.avm2_effects.specs.Writes.{item_at, write_as, write_target};
+ghost use Rattle.avm2_effects.specs.Writes.{item_at, store_at, write_as, write_target};
 ghost use Rattle.avm2_meaning.specs.Operands.{ref};
 ghost use Rattle.avm2_meaning.specs.Properties.{into_slot, store, write, write_hidden, write_own_slot, write_property};
 ghost use Rattle.avm2_meaning.specs.declared.heap.Heap.{Heap};
@@ -10,7 +10,7 @@ ghost use Rattle.avm2_values.specs.Answers.{Gives};
 use crate::own_slots::{set_own_slot, write_class};
 use crate::starting::stored_as;
 use crate::states::request;
-use crate::targets::{Target, hidden_type, target_at};
+use crate::targets::{Target, hidden_type, kept_target, target_at};
 use avm2_meaning::{Effect, Heap, Next, Operand};
 use avm2_program::{Member, Program};
 use avm2_values::{Refusal, convert, plain};
@@ -60,6 +60,23 @@ fn item_at(object: ObjId, value: &Value, text: Option<Text>) -> Result<Option<Tr
         property,
         value,
     }))
+}
+
+/// Writes a value to a property of an object that isn't converted, with the record of that if it
+/// makes one; such a property has to be there.
+#[tactic(auto, using(crate::proofs::Stored::by_target))]
+pub fn store_at(
+    alloc: Global,
+    heap: &mut Heap,
+    object: ObjId,
+    key: &Text,
+    value: Value,
+) -> Result<Effect, Refusal>
+    ensures { Gives result heap.new (store_at object key.now value heap.old) }
+{
+    let target = kept_target(heap, object, key)?;
+    let item = item_at(object, &value, target.text)?;
+    store(alloc, heap, object, key, value, item)
 }
 
 // Writes a value to a property, or asks for the state that it names.
