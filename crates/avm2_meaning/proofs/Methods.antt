@@ -19,7 +19,8 @@ use Rattle.avm2_meaning.specs.Making.{construct}
 use Rattle.avm2_meaning.specs.Operands.{undefined}
 use Rattle.avm2_meaning.specs.declared.operand.Operand.{Operand}
 use Rattle.avm2_meaning.specs.declared.operand.Operand.TheVariants.{ClassValue, Natives, Plain, ScriptValue}
-use Rattle.avm2_meaning.specs.Replies.{Reply, finish, with_reply}
+use Rattle.avm2_meaning.specs.Replies.{finish, with_reply}
+use Rattle.avm2_meaning.specs.declared.reply.Reply.{Reply}
 use Rattle.avm2_meaning.specs.Results.{Goes, Halts, Result, bind, choose, mapped, need, or_fault}
 
 -- the method is this, where the play goes on

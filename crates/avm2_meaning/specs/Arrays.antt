@@ -13,7 +13,8 @@ use Rattle.avm2_meaning.specs.Heap.{on_stage}
 use Rattle.avm2_meaning.specs.declared.heap.Heap.{Heap}
 use Rattle.avm2_meaning.specs.declared.operand.Operand.{Operand}
 use Rattle.avm2_meaning.specs.declared.operand.Operand.TheVariants.{Plain}
-use Rattle.avm2_meaning.specs.Replies.{Reply, gives}
+use Rattle.avm2_meaning.specs.Replies.{gives}
+use Rattle.avm2_meaning.specs.declared.reply.Reply.{Reply}
 use Rattle.avm2_meaning.specs.Results.{Goes, Result, bind, done, faults, on, plain, staged, stops, test}
 
 -- an array, by its number; anything else is of the wrong kind

@@ -32,7 +32,8 @@ use Rattle.avm2_meaning.specs.Operands.{class_value, file_type, is_class, is_nul
 use Rattle.avm2_meaning.specs.declared.operand.Operand.{Operand}
 use Rattle.avm2_meaning.specs.declared.operand.Operand.TheVariants.{Plain}
 use Rattle.avm2_meaning.specs.Properties.{is_written_at}
-use Rattle.avm2_meaning.specs.Replies.{Reply, finish, gives}
+use Rattle.avm2_meaning.specs.Replies.{finish, gives}
+use Rattle.avm2_meaning.specs.declared.reply.Reply.{Reply}
 use Rattle.avm2_meaning.specs.Results.{Goes, Result, bind, choose, faults, mapped, need, on, or_fault, plain, stops, test}
 use Rattle.avm2_meaning.specs.Runtime.{call_runtime}
 

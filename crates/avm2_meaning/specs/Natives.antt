@@ -32,7 +32,8 @@ use Rattle.avm2_meaning.specs.declared.frame.Native.TheVariants as Native
 use Rattle.avm2_meaning.specs.Heap.{on_stage}
 use Rattle.avm2_meaning.specs.declared.heap.Heap.{Heap}
 use Rattle.avm2_meaning.specs.declared.operand.Operand.{Operand}
-use Rattle.avm2_meaning.specs.Replies.{Reply, gives, gives_nothing, reply}
+use Rattle.avm2_meaning.specs.Replies.{gives, gives_nothing, reply}
+use Rattle.avm2_meaning.specs.declared.reply.Reply.{Reply}
 use Rattle.avm2_meaning.specs.Results.{Goes, Result, bind, choose, given, lacks, mapped, need, on, plain, stops, test}
 
 -- the type of an event that is given

@@ -6,19 +6,19 @@ use Rattle.avm2_meaning.specs.Effects.{Acted, acted, answered, silent}
 use Rattle.avm2_meaning.specs.declared.effect.Effect.{Effect}
 use Rattle.avm2_meaning.specs.declared.effect.Next.{Next}
 use Rattle.avm2_meaning.specs.declared.effect.Next.TheVariants as Next
+use Rattle.avm2_meaning.specs.declared.reply.Reply.{Reply}
 use Rattle.avm2_meaning.specs.Frames.{keeps}
 use Rattle.avm2_meaning.specs.declared.work.Work.{Work}
 use Rattle.avm2_meaning.specs.declared.heap.Heap.{Heap}
 use Rattle.avm2_meaning.specs.declared.operand.Operand.TheVariants.{Plain}
 use Rattle.avm2_meaning.specs.Results.{Goes, Result}
 
--- a value, if it is there at once
-pub record Reply : Type 0 where
-  pub value : Option Value
-  pub effect : Effect
+-- a value, and what the call comes to besides
+abbrev pub with_value : Value → Effect → Reply
+with_value v e = record { value = Some v; effect = e }
 
 abbrev pub reply : Value → Effect → Heap → Result Reply
-reply v e h = Goes (record { value = Some v; effect = e }) h
+reply v e h = Goes (with_value v e) h
 
 abbrev pub gives : Value → Heap → Result Reply
 gives v h = reply v (silent Next.On) h

@@ -22,7 +22,8 @@ use Rattle.avm2_meaning.specs.Heap.{on_stage}
 use Rattle.avm2_meaning.specs.declared.heap.Heap.{Heap}
 use Rattle.avm2_meaning.specs.declared.operand.Operand.{Operand}
 use Rattle.avm2_meaning.specs.declared.operand.Operand.TheVariants.{Plain}
-use Rattle.avm2_meaning.specs.Replies.{Reply, reply}
+use Rattle.avm2_meaning.specs.Replies.{reply}
+use Rattle.avm2_meaning.specs.declared.reply.Reply.{Reply}
 use Rattle.avm2_meaning.specs.Results.{Goes, Result, bind, faults, inside, on, test}
 use Rattle.avm2_meaning.specs.States.{change_to, first_steps}
 

@@ -8,6 +8,7 @@ mod frame;
 mod heap;
 mod listener;
 mod operand;
+mod reply;
 mod stack;
 mod work;
 
@@ -21,6 +22,7 @@ pub use frame::{Adding, Change, ChangeStep, CodeFrame, Dispatch, Frame, Native, 
 pub use heap::{Heap, MadeClass, ObjectPlace, Statics};
 pub use listener::{Listener, Watcher};
 pub use operand::Operand;
+pub use reply::Reply;
 pub use stack::Stack;
 pub use work::Work;
 

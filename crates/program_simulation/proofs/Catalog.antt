@@ -49,7 +49,8 @@ use Rattle.avm2_meaning.specs.declared.effect.Next.{Next}
 use Rattle.avm2_meaning.specs.declared.heap.Heap.{Heap}
 use Rattle.avm2_meaning.specs.Natives as natives
 use Rattle.avm2_meaning.specs.declared.operand.Operand.TheVariants.{Plain}
-use Rattle.avm2_meaning.specs.Replies.{Reply, gives_nothing}
+use Rattle.avm2_meaning.specs.Replies.{gives_nothing}
+use Rattle.avm2_meaning.specs.declared.reply.Reply.{Reply}
 use Rattle.avm2_meaning.specs.Results as machine
 
 pub stays_bind : {A B : Type 0} (w : World) (r : Result A) (f : A → World → Result B) → Stays w r → ((v : A) → Stays w (f v w)) → Stays w (bind r f)

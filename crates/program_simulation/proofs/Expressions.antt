@@ -91,7 +91,8 @@ use Rattle.avm2_meaning.specs.Operands.{ref, undefined}
 use Rattle.avm2_meaning.specs.declared.operand.Operand.{Operand}
 use Rattle.avm2_meaning.specs.declared.operand.Operand.TheVariants.{Plain}
 use Rattle.avm2_meaning.specs.Properties as properties
-use Rattle.avm2_meaning.specs.Replies.{Reply, finish, gives}
+use Rattle.avm2_meaning.specs.Replies.{finish, gives}
+use Rattle.avm2_meaning.specs.declared.reply.Reply.{Reply}
 use Rattle.avm2_meaning.specs.Results as machine
 use Rattle.avm2_meaning.specs.Trace.{Playing}
 

@@ -80,7 +80,8 @@ use Rattle.avm2_meaning.specs.Natives.{call_trace, texts_of_operands}
 use Rattle.avm2_meaning.specs.Operands.{ref, undefined}
 use Rattle.avm2_meaning.specs.declared.operand.Operand.{Operand}
 use Rattle.avm2_meaning.specs.declared.operand.Operand.TheVariants.{Natives, Plain, ScriptValue}
-use Rattle.avm2_meaning.specs.Replies.{Reply, finish, reply}
+use Rattle.avm2_meaning.specs.Replies.{finish, reply}
+use Rattle.avm2_meaning.specs.declared.reply.Reply.{Reply}
 use Rattle.avm2_meaning.specs.Results as machine
 use Rattle.avm2_meaning.specs.Results.{mapped}
 
