@@ -1,3 +1,5 @@
+pub mod AddedMembers
 pub mod FirstTaken
 pub mod SameConstructors
 pub mod SameEvents
+pub mod SameMembers

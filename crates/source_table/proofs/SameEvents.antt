@@ -38,7 +38,7 @@ module _ (readers : Readers) where
   same_metadata : (hs : List Holder) (ms : List Metadata) → map read_of hs ≡ map read.metadata_read ms → flat_map tags_of ms ≡ flat_map (metadata_tags readers) hs
   same_metadata hs ms e = sym (sym (flat_map-map metadata_read read_of hs) ∙ (ap (flat_map metadata_read) e ∙ flat_map-map metadata_read read.metadata_read ms))
 
-  same_tags : (r : ReadContent) (c : Content) → IsReadAs readers r c → tags_read r ≡ class_metadata readers c
+  pub same_tags : (r : ReadContent) (c : Content) → IsReadAs readers r c → tags_read r ≡ class_metadata readers c
   same_tags (content.Document d) (Content.Document root) is = same_metadata (metadata_in root.nodes) d.metadata is.metadata
   same_tags (content.ClassFile parsed) (Content.Class_file file) is = ap (λ f. class_metadata readers (Content.Class_file f)) (sym is)
   same_tags (content.Document d) (Content.Class_file file) is = absurd is

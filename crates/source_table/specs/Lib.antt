@@ -1,2 +1,4 @@
 pub mod Constructors
 pub mod Events
+pub mod Members
+pub mod Whole
