@@ -37,6 +37,16 @@ use Rattle.avm2_meaning.specs.declared.reply.Reply.{Reply}
 use Rattle.avm2_meaning.specs.Results.{Goes, Result, bind, choose, faults, mapped, need, on, or_fault, plain, stops, test}
 use Rattle.avm2_meaning.specs.Runtime.{call_runtime}
 
+-- the class value of the base, or null where there is no base
+abbrev pub test_base : Option StaticType → Operand → Heap → Result (Unit {0})
+test_base None v h = test fault.WrongKind (is_null v) h
+test_base (Some StaticType.Unnamed) v h = faults fault.NoName h
+test_base (Some (StaticType.Object class)) v h = test fault.WrongKind (is_class (StaticType.Object class) v) h
+test_base (Some _) v h = faults fault.WrongKind h
+
+abbrev pub made_with : List Operand → FileClass → MadeClass
+made_with scopes class = record { scopes = scopes; statics = record { slots = class.own_slots; written = [] } }
+
 module _ (p : Program) where
   -- a class value that is called converts its one argument
   abbrev pub convert_one : StaticType → List Operand → Heap → Result Reply
@@ -116,16 +126,6 @@ module _ (p : Program) where
   -- a class can be made once, and only where all of it is played
   abbrev pub can_be_made : ℕ → FileClass → Heap → Bool
   can_be_made k class h = not (is_some (made_class k h) || class.is_unplayed || is_none (body_of p class.initialiser))
-
-  -- the class value of the base, or null where there is no base
-  abbrev pub test_base : Option StaticType → Operand → Heap → Result (Unit {0})
-  test_base None v h = test fault.WrongKind (is_null v) h
-  test_base (Some StaticType.Unnamed) v h = faults fault.NoName h
-  test_base (Some (StaticType.Object class)) v h = test fault.WrongKind (is_class (StaticType.Object class) v) h
-  test_base (Some _) v h = faults fault.WrongKind h
-
-  abbrev pub made_with : List Operand → FileClass → MadeClass
-  made_with scopes class = record { scopes = scopes; statics = record { slots = class.own_slots; written = [] } }
 
   -- a class is made, and then its initialiser runs on it
   abbrev pub make_class : ℕ → FileClass → Work → Heap → Result (Acted Work)
