@@ -8,10 +8,14 @@
 
 mod adding;
 mod bindings;
+mod changes;
 mod emptying;
 mod events;
+mod writing;
 
 pub use adding::add_on;
 pub use bindings::start_on;
+pub use changes::change_on;
 pub use emptying::empty_on;
 pub use events::{change, click, creation_complete, current_state_change};
+pub use writing::write_and;
