@@ -1,7 +1,7 @@
 // What the receivers of native calls are.
 
 ghost use Rattle.std.specs.Prelude.{◌≡◌};
-ghost use Rattle.avm2_meaning.specs.Classes.{is_component_object, is_container_object, is_document, is_event_object, is_of};
+ghost use Rattle.avm2_meaning.specs.Classes.{is_container_object, is_event_object, is_of};
 ghost use Rattle.avm2_meaning.specs.Natives.{has_method};
 
 use avm2_program::Program;
@@ -19,15 +19,8 @@ fn is_of(program: &Program, ancestor: NativeClass, entity: &Entity) -> bool
     }
 }
 
-// Whether an object is a component.
-pub fn is_component(program: &Program, entity: &Entity) -> bool
-    ensures { result ≡ is_component_object program.now entity.now.object }
-{
-    is_of(program, NativeClass::UIComponent, entity)
-}
-
 // Whether an object is a container.
-pub fn is_container(program: &Program, entity: &Entity) -> bool
+fn is_container(program: &Program, entity: &Entity) -> bool
     ensures { result ≡ is_container_object program.now entity.now.object }
 {
     is_of(program, NativeClass::SkinnableContainer, entity)
@@ -39,13 +32,6 @@ fn is_event(program: &Program, entity: &Entity) -> bool
     ensures { result ≡ is_event_object program.now entity.now.object }
 {
     is_of(program, NativeClass::Event, entity)
-}
-
-// Whether an object has the calls of the runtime.
-pub fn is_document(program: &Program, entity: &Entity) -> bool
-    ensures { result ≡ is_document program.now entity.now.object }
-{
-    is_component(program, entity) && matches!(entity.class(), Some(Class::File(_)))
 }
 
 // Whether an object has a method of the catalog.
