@@ -1,0 +1,4 @@
+pub mod ClassTexts
+pub mod CodeTexts
+pub mod ParsedReaders
+pub mod ReadSets
